@@ -10,9 +10,9 @@ use Rattle.td_comparison.specs.Messages.{IsComparisonIn}
 use Rattle.td_comparison.specs.declared.differing.Findings.{Findings}
 use Rattle.td_comparison.specs.declared.digest.SiteDigest.{SiteDigest}
 use Rattle.td_comparison.specs.declared.message.Comparison.{Comparison}
-use Rattle.td_checked_meetings.specs.Comparing.{Answers, Compares, IsOfAnother}
-use Rattle.td_checked_meetings.specs.ForProofs.{Answered, Differ, IsOfOther}
-use Rattle.td_checked_meetings.specs.declared.scope.Scope.{Scope}
+use Rattle.td_checked_meetings.specs.Comparing.{AnswersComparison, Compares, IsOfAnother}
+use Rattle.td_checked_meetings.specs.ForProofs.{FindsOf, Differ, IsOfOther}
+use Rattle.td_checked_meetings.specs.declared.scope.MeetingScope.{MeetingScope}
 
 -- ---- a comparison and its bytes are of one site
 
@@ -25,7 +25,7 @@ as_another s bytes x is other = (λ same. other.0 (is.site ∙ same), sym is.scr
 -- ---- what is answered
 
 pub answered : {E : Type 0} (s : Seen) (v : VersionVector) (x : Comparison) (r : Result Findings E) (es : List Entry) (ds : List SiteDigest) → es ≡ s.entries → ds ≡ x.digests.items → IsOfOther s x
-    → IfOk r (λ f. f.digests.items ≡ answers_to es v ds) → IfOk r (λ f. f.differing.items ≡ known_to_differ es v ds) → IfOk r (λ f. Answered s v x f)
+    → IfOk r (λ f. f.digests.items ≡ answers_to es v ds) → IfOk r (λ f. f.differing.items ≡ known_to_differ es v ds) → IfOk r (λ f. FindsOf s v x f)
 answered s v x (Ok f) es ds held same other digests differing = record {
   compared = λ _. (
     digests ∙ ap (λ (l : List Entry). answers_to l v ds) held ∙ ap (answers_to s.entries v) same,
@@ -35,8 +35,8 @@ answered s v x (Ok f) es ds held same other digests differing = record {
 }
 answered s v x (Err e) es ds held same other digests differing = tt
 
-pub answers : (s : Seen) (v : VersionVector) (bytes : List ℕ) (x : Comparison) (f : Findings) → IsVector s.entries v → IsComparisonIn bytes x → Answered s v x f
-    → Answers s bytes (record { vector = v; left_out = f.differing }) f.digests.items
+pub answers : (s : Seen) (v : VersionVector) (bytes : List ℕ) (x : Comparison) (f : Findings) → IsVector s.entries v → IsComparisonIn bytes x → FindsOf s v x f
+    → AnswersComparison s bytes (record { vector = v; left_out = f.differing }) f.digests.items
 answers s v bytes x f own is found = record {
   vector = own;
   compared = λ other.
@@ -67,7 +67,7 @@ pub few : {V E : Type 0} (v : VersionVector) (r : Result V E) (items : V → Lis
 few v (Ok f) items es ds all same is = omega (arith, ap length is, few_differ es v ds, ap length same)
 few v (Err e) items es ds all same is = tt
 
-pub compares : (s : Seen) (v : VersionVector) (bytes : List ℕ) (x : Comparison) (c : Scope) → c.vector ≡ v → IsComparisonIn bytes x → Differ s v x c.left_out.items → Compares s v bytes c
+pub compares : (s : Seen) (v : VersionVector) (bytes : List ℕ) (x : Comparison) (c : MeetingScope) → c.vector ≡ v → IsComparisonIn bytes x → Differ s v x c.left_out.items → Compares s v bytes c
 compares s v bytes x c own is found = record {
   vector = own;
   compared = λ other. found.compared (as_other s bytes x is other) ∙ ap (differing s.entries v) is.digests;

@@ -17,14 +17,14 @@ use Rattle.td_meeting.specs.Reading.{ReadsEntries}
 use Rattle.td_meeting.specs.declared.error.MeetingError.{MeetingError}
 use Rattle.td_meeting.specs.declared.error.MeetingError.TheVariants.{Broken, OutOfMemory, Frame, OtherScript, SameSite, WriteFault, Take}
 use Rattle.td_checked_meetings.specs.ForProofs.{IsSifted, NotTaken, StopsAt, TakesPrefix, not_taken}
-use Rattle.td_checked_meetings.specs.Steps.{IsTaken, NotReceived, Receives, ReceivesCut, Refuses, StopsIn}
-use Rattle.td_checked_meetings.specs.declared.scope.Scope.{Scope}
+use Rattle.td_checked_meetings.specs.Steps.{IsReceived, NotReceived, Receives, ReceivesCut, RefusesReceived, StopsIn}
+use Rattle.td_checked_meetings.specs.declared.scope.MeetingScope.{MeetingScope}
 use Rattle.td_checked_meetings.specs.declared.sifting.Sifted.{Sifted}
 use Rattle.td_checked_meetings.specs.declared.taking.Received.{Received}
 
 -- ---- a batch
 
-module _ (s : Seen) (c : Scope) (es : List Entry) (x : Sifted) (batch : List Entry) (after : Seen) (live : s.live ≡ true) (sifted : IsSifted s c es x) (same : batch ≡ x.entries.items) where
+module _ (s : Seen) (c : MeetingScope) (es : List Entry) (x : Sifted) (batch : List Entry) (after : Seen) (live : s.live ≡ true) (sifted : IsSifted s c es x) (same : batch ≡ x.entries.items) where
   pub received : (t : Taken) → TakesBatch s batch t after → Receives s c es (record { taken = t; dropped = x.dropped; beyond = x.beyond }) after
   received t takes = record {
     vector = sifted.vector;
@@ -34,7 +34,7 @@ module _ (s : Seen) (c : Scope) (es : List Entry) (x : Sifted) (batch : List Ent
     beyond = sifted.beyond;
   }
 
-  refuses : (e : TakeError) → Takes s batch (Err e) after → Refuses s c es e after
+  refuses : (e : TakeError) → Takes s batch (Err e) after → RefusesReceived s c es e after
   refuses e takes = record { vector = sifted.vector; own = sifted.own; takes = subst (λ (l : List Entry). Takes s l (Err e) after) (same ∙ sifted.entries) takes }
 
   pub refused : (e : TakeError) → Takes s batch (Err e) after → NotTaken s c es (not_taken e) after
@@ -47,7 +47,7 @@ module _ (s : Seen) (c : Scope) (es : List Entry) (x : Sifted) (batch : List Ent
 
 -- ---- a stream that is not whole
 
-module _ (s : Seen) (c : Scope) (es : List Entry) (after : Seen) where
+module _ (s : Seen) (c : MeetingScope) (es : List Entry) (after : Seen) where
   pub takes_none : (error : FrameError) (e : MeetingError) → NotTaken s c es e after → TakesPrefix s c es error e after
   takes_none error Broken none = absurd none
   takes_none error OutOfMemory none = none
@@ -58,7 +58,7 @@ module _ (s : Seen) (c : Scope) (es : List Entry) (after : Seen) where
   takes_none error (Take e) none = none
 
   module _ (left rest : Option (List ℕ)) where
-    not_received : (ending : Result (List ℕ) Miss) (e : MeetingError) → ReadsEntries left rest es ending → IsTaken ending → NotTaken s c es e after → NotReceived s c left rest e after
+    not_received : (ending : Result (List ℕ) Miss) (e : MeetingError) → ReadsEntries left rest es ending → IsReceived ending → NotTaken s c es e after → NotReceived s c left rest e after
     not_received ending Broken reads is none = absurd none
     not_received ending OutOfMemory reads is none = none
     not_received ending (Frame f n) reads is none = absurd none

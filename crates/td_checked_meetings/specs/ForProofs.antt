@@ -22,8 +22,8 @@ use Rattle.td_comparison.specs.declared.reading.MessageError.TheVariants as mess
 use Rattle.td_meeting.specs.declared.error.MeetingError.{MeetingError}
 use Rattle.td_meeting.specs.declared.error.MeetingError.TheVariants.{Broken, OutOfMemory, Frame, Take, WriteFault}
 use Rattle.td_checked_meetings.specs.Scopes.{first_beyond, in_sequence, of_others, taken}
-use Rattle.td_checked_meetings.specs.Steps.{Receives, Refuses, greets}
-use Rattle.td_checked_meetings.specs.declared.scope.Scope.{Scope}
+use Rattle.td_checked_meetings.specs.Steps.{Receives, RefusesReceived, greets}
+use Rattle.td_checked_meetings.specs.declared.scope.MeetingScope.{MeetingScope}
 use Rattle.td_checked_meetings.specs.declared.sifting.Beyond.{Beyond}
 use Rattle.td_checked_meetings.specs.declared.sifting.Sifted.{Sifted}
 use Rattle.td_checked_meetings.specs.declared.taking.Received.{Received}
@@ -44,7 +44,7 @@ unread message_error.OutOfMemory = OutOfMemory
 unread message_error.Malformed = Frame frame_error.BadFrame 0
 
 -- the site's greeting was written, with the vector of the scope
-abbrev pub OwnGreeting : Seen → Scope → Option (List ℕ) → Option (List ℕ) → Result (Unit {0}) MeetingError → Type 0
+abbrev pub OwnGreeting : Seen → MeetingScope → Option (List ℕ) → Option (List ℕ) → Result (Unit {0}) MeetingError → Type 0
 OwnGreeting s c old new (Ok x) = Appends old new (greets s c)
 OwnGreeting s c old new (Err (WriteFault count)) = AppendsFront old new (greets s c) × (count ≡ 0)
 OwnGreeting s c old new (Err OutOfMemory) = new ≡ old
@@ -62,7 +62,7 @@ pub record IsSequenced (v : VersionVector) (all rest : List Entry) (numbers : Nu
   pub first : option_or beyond (first_beyond v following rest) ≡ first_beyond v [] all
 
 -- what a site may take of a batch
-pub record IsSifted (s : Seen) (c : Scope) (es : List Entry) (x : Sifted) : Type 0 where
+pub record IsSifted (s : Seen) (c : MeetingScope) (es : List Entry) (x : Sifted) : Type 0 where
   pub vector : VersionVector
   pub own : IsVector s.entries vector
   pub entries : x.entries.items ≡ taken c.left_out.items vector es
@@ -70,20 +70,20 @@ pub record IsSifted (s : Seen) (c : Scope) (es : List Entry) (x : Sifted) : Type
   pub beyond : x.beyond ≡ first_beyond vector [] (of_others c.left_out.items es)
 
 -- why an open site takes nothing of a batch
-abbrev pub NotTaken : Seen → Scope → List Entry → MeetingError → Seen → Type 0
+abbrev pub NotTaken : Seen → MeetingScope → List Entry → MeetingError → Seen → Type 0
 NotTaken s c es OutOfMemory after = after ≡ s
 NotTaken s c es (Take take_error.Broken) after = ⊥
 NotTaken s c es (Take take_error.OutOfMemory) after = ⊥
-NotTaken s c es (Take e) after = Refuses s c es e after
+NotTaken s c es (Take e) after = RefusesReceived s c es e after
 NotTaken s c es e after = ⊥
 
 -- of a stream that was cut, or whose reader failed
-abbrev pub TakesPrefix : Seen → Scope → List Entry → FrameError → MeetingError → Seen → Type 0
+abbrev pub TakesPrefix : Seen → MeetingScope → List Entry → FrameError → MeetingError → Seen → Type 0
 TakesPrefix s c es error (Frame e count) after = (e ≡ error) × (r : Received) × Receives s c es r after × (count ≡ r.taken.fresh)
 TakesPrefix s c es error e after = NotTaken s c es e after
 
 -- where the reading of entries stopped
-abbrev pub StopsAt : Seen → Scope → List Entry → FrameError → MeetingError → Seen → Type 0
+abbrev pub StopsAt : Seen → MeetingScope → List Entry → FrameError → MeetingError → Seen → Type 0
 StopsAt s c es frame_error.OutOfMemory e after = (e ≡ OutOfMemory) × (after ≡ s)
 StopsAt s c es frame_error.ReadFault e after = TakesPrefix s c es frame_error.ReadFault e after
 StopsAt s c es frame_error.Cut e after = TakesPrefix s c es frame_error.Cut e after
@@ -94,7 +94,7 @@ abbrev pub IsOfOther : Seen → Comparison → Type 0
 IsOfOther s x = (x.site ≢ s.site) × (x.script ≡ sha256 s.script)
 
 -- what is answered to a comparison: nothing to one of another script, or of this site's number
-pub record Answered (s : Seen) (v : VersionVector) (x : Comparison) (f : Findings) : Type 0 where
+pub record FindsOf (s : Seen) (v : VersionVector) (x : Comparison) (f : Findings) : Type 0 where
   pub compared : IsOfOther s x → (f.digests.items ≡ answers_to s.entries v x.digests.items) × (f.differing.items ≡ known_to_differ s.entries v x.digests.items)
   pub not_compared : (IsOfOther s x → ⊥) → (f.digests.items ≡ []) × (f.differing.items ≡ [])
 

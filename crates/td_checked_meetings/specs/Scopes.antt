@@ -13,12 +13,12 @@ is_left_out sites e = list_any (λ n. n == e.site) sites
 -- ---- what is sent
 
 -- counted by the vector, and of no site that is left out
-abbrev pub is_kept : List ℕ → VersionVector → Entry → Bool
-is_kept left_out own e = not (lacks own e) && not (is_left_out left_out e)
+abbrev pub is_in_scope : List ℕ → VersionVector → Entry → Bool
+is_in_scope left_out own e = not (lacks own e) && not (is_left_out left_out e)
 
--- what a site of one vector sends to one of another: what is after the other's
+-- what a site of one vector sends_in_scope to one of another: what is after the other's
 abbrev pub sent : List ℕ → VersionVector → VersionVector → List Entry → List Entry
-sent left_out own other xs = filter (is_kept left_out own) (after_vector other xs)
+sent left_out own other xs = filter (is_in_scope left_out own) (after_vector other xs)
 
 -- ---- what is taken
 

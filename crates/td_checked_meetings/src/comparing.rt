@@ -3,11 +3,11 @@
 ghost use Rattle.std.specs.Prelude.{◌≡◌, ◌<◌, ◌≤◌, ◌^◌, ◌↔◌, ◌++◌, true, length, IsTrue, IfOk};
 ghost use Rattle.td_io.specs.Streams.{Writes};
 ghost use Rattle.td_stamps.specs.Vectors.{IsVector};
-ghost use Rattle.td_comparison.specs.Digests.{question_of, rises, sites_of};
+ghost use Rattle.td_comparison.specs.Digests.{question_of, rises, digest_sites};
 ghost use Rattle.td_checked_meetings.specs.Comparing.{AddsDifferences, AnsweredQuestion, Asked, Compared, IsWhole, comparison_of};
 ghost use Rattle.td_checked_meetings.specs.ForProofs as proofs;
 
-use crate::scope::Scope;
+use crate::scope::MeetingScope;
 use std::alloc::{AllocError, Global};
 use td_comparison::{
     Comparison, Findings, MessageError, SiteDigest, differing_sites, put_comparison,
@@ -72,14 +72,14 @@ pub fn ask<R: Replica, K: Sink>(
 }
 
 /// The scope of a meeting with a site that does not compare: all that is held, and no site is left out.
-pub fn whole_scope<R: Replica>(alloc: Global, site: &R) -> Result<Scope, MeetingError>
+pub fn whole_scope<R: Replica>(alloc: Global, site: &R) -> Result<MeetingScope, MeetingError>
     ensures { IsWhole (R.seen site.now) result }
 {
     let Ok(held) = site.held() else {
         return Err(MeetingError::Broken);
     };
     match held.vector(alloc) {
-        Ok(vector) => Ok(Scope {
+        Ok(vector) => Ok(MeetingScope {
             vector,
             left_out: Vec::new(alloc),
         }),
@@ -109,8 +109,8 @@ fn answer_to<R: Replica>(
     comparison: &Comparison,
 ) -> Result<Findings, AllocError>
     requires holding { held.now.entries ≡ (R.seen site.now).entries }
-    requires rises { rises 0 (sites_of comparison.now.digests.items) ≡ true }
-    ensures { IfOk result (λ f. proofs.Answered (R.seen site.now) vector.now comparison.now f) }
+    requires rises { rises 0 (digest_sites comparison.now.digests.items) ≡ true }
+    ensures { IfOk result (λ f. proofs.FindsOf (R.seen site.now) vector.now comparison.now f) }
 {
     if is_of_another(site, comparison) {
         return td_comparison::answer(alloc, held, vector, &comparison.digests);
@@ -128,7 +128,7 @@ pub fn answer_question<R: Replica, K: Sink>(
     site: &R,
     question: &[u8],
     sink: &mut K,
-) -> Result<Scope, MeetingError>
+) -> Result<MeetingScope, MeetingError>
     ensures { AnsweredQuestion (R.seen site.now) question.now (K.held sink.old) result (K.held sink.new) }
 {
     let Ok(held) = site.held() else {
@@ -145,7 +145,7 @@ pub fn answer_question<R: Replica, K: Sink>(
         return Err(MeetingError::OutOfMemory);
     };
     match send_comparison(site, &answer.digests, sink) {
-        Ok(()) => Ok(Scope {
+        Ok(()) => Ok(MeetingScope {
             vector,
             left_out: answer.differing,
         }),
@@ -162,7 +162,7 @@ fn differing_by<R: Replica>(
     answer: &Comparison,
 ) -> Result<Vec<u16>, AllocError>
     requires holding { held.now.entries ≡ (R.seen site.now).entries }
-    requires rises { rises 0 (sites_of answer.now.digests.items) ≡ true }
+    requires rises { rises 0 (digest_sites answer.now.digests.items) ≡ true }
     ensures differ { IfOk result (λ v. proofs.Differ (R.seen site.now) vector.now answer.now v.items) }
     ensures few { IfOk result (λ v. length v.items ≤ length answer.now.digests.items) }
 {
@@ -180,7 +180,7 @@ pub fn compare<R: Replica, K: Sink>(
     vector: Vector,
     answer: &[u8],
     sink: &mut K,
-) -> Result<Scope, MeetingError>
+) -> Result<MeetingScope, MeetingError>
     ensures { Compared (R.seen site.now) vector answer.now (K.held sink.old) result (K.held sink.new) }
 {
     let Ok(held) = site.held() else {
@@ -194,7 +194,7 @@ pub fn compare<R: Replica, K: Sink>(
         return Err(MeetingError::OutOfMemory);
     };
     match put_differences(sink, &left_out) {
-        Ok(()) => Ok(Scope { vector, left_out }),
+        Ok(()) => Ok(MeetingScope { vector, left_out }),
         Err(Failed) => Err(MeetingError::WriteFault { taken: 0 }),
     }
 }
@@ -212,7 +212,7 @@ fn joined(alloc: Global, first: &[u16], then: &[u16]) -> Result<Vec<u16>, AllocE
 /// The second site reads which sites the first one found to differ, and leaves these out too.
 pub fn add_differences(
     alloc: Global,
-    scope: &mut Scope,
+    scope: &mut MeetingScope,
     differences: &[u8],
 ) -> Result<(), MeetingError>
     ensures { AddsDifferences scope.old differences.now result scope.new }

@@ -17,7 +17,7 @@
 //! Definitions to trust, in `specs/`: Comparing, Scopes, Steps.
 //!
 //! td_checked_meetings sees a site as a `Replica`, and messages as bytes. Between the steps of one meeting it keeps a
-//! `Scope`, which its caller holds, and nothing between two meetings. What a caller does about sites that differ is its
+//! `MeetingScope`, which its caller holds, and nothing between two meetings. What a caller does about sites that differ is its
 //! own affair.
 #![tactic(auto)]
 
@@ -29,7 +29,7 @@ mod steps;
 mod taking;
 
 pub use comparing::{add_differences, answer_question, ask, compare, whole_scope};
-pub use scope::Scope;
+pub use scope::MeetingScope;
 pub use sifting::Beyond;
 pub use steps::{answer, finish, greet, settle};
 pub use taking::Received;

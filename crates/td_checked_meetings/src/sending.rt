@@ -12,7 +12,7 @@ ghost use Rattle.td_frames.specs.declared.version.Version.TheVariants.{Second};
 ghost use Rattle.td_checked_meetings.specs.Scopes.{sent};
 ghost use Rattle.td_checked_meetings.specs.ForProofs.{OwnGreeting};
 
-use crate::scope::Scope;
+use crate::scope::MeetingScope;
 use std::alloc::Global;
 use td_frames::{put_end, put_entry, put_greeting};
 use td_io::{Failed, Sink};
@@ -23,7 +23,7 @@ use td_stamps::{Entry, Held, Vector};
 // Writes an entry if it is in the scope and after the other site's vector.
 fn put_kept<K: Sink>(
     sink: &mut K,
-    scope: &Scope,
+    scope: &MeetingScope,
     vector: &Vector,
     entry: &Entry,
 ) -> Result<(), Failed>
@@ -43,7 +43,7 @@ fn put_kept<K: Sink>(
 // Writes the frames of the entries in the scope that are after the other site's vector.
 fn put_entries<K: Sink>(
     sink: &mut K,
-    scope: &Scope,
+    scope: &MeetingScope,
     vector: &Vector,
     entries: &[Entry],
 ) -> Result<(), Failed>
@@ -62,7 +62,7 @@ fn put_entries<K: Sink>(
 // Writes the stream of the entries in the scope that are after the other site's vector.
 fn put_stream<K: Sink>(
     sink: &mut K,
-    scope: &Scope,
+    scope: &MeetingScope,
     vector: &Vector,
     held: &Held,
 ) -> Result<(), Failed>
@@ -79,7 +79,7 @@ fn put_stream<K: Sink>(
 /// memory.
 pub(crate) fn send<R: Replica, K: Sink>(
     site: &R,
-    scope: &Scope,
+    scope: &MeetingScope,
     vector: &Vector,
     sink: &mut K,
 ) -> Result<(), Failed>
@@ -101,7 +101,7 @@ pub(crate) fn send<R: Replica, K: Sink>(
 pub(crate) fn put_own<R: Replica, K: Sink>(
     alloc: Global,
     site: &R,
-    scope: &Scope,
+    scope: &MeetingScope,
     sink: &mut K,
 ) -> Result<(), MeetingError>
     ensures written { OwnGreeting (R.seen site.now) scope.now (K.held sink.old) (K.held sink.new) result }

@@ -5,7 +5,7 @@ ghost use Rattle.td_stamps.specs.declared.entry.Entry.{Entry as EntryData};
 ghost use Rattle.td_checked_meetings.specs.ForProofs.{AreLast, IsSequenced, last_number};
 ghost use Rattle.td_checked_meetings.specs.Scopes.{first_beyond, follows, in_sequence, of_others, taken};
 
-use crate::scope::Scope;
+use crate::scope::MeetingScope;
 use std::alloc::{AllocError, Global};
 use std::collections::BTreeMap;
 use td_stamps::{Entry, Vector};
@@ -28,7 +28,7 @@ pub(crate) struct Sifted {
 }
 
 // Adds an entry, if its site is not left out.
-fn add_other(scope: &Scope, others: &mut Vec<Entry>, entry: Entry) -> Result<(), AllocError>
+fn add_other(scope: &MeetingScope, others: &mut Vec<Entry>, entry: Entry) -> Result<(), AllocError>
     ensures { OnOk result (others.new.items ≡ others.old.items ++ of_others scope.now.left_out.items (entry ∷ [])) }
 {
     if scope.leaves_out(entry.site) {
@@ -39,7 +39,11 @@ fn add_other(scope: &Scope, others: &mut Vec<Entry>, entry: Entry) -> Result<(),
 }
 
 // The entries of sites that are not left out.
-fn of_others(alloc: Global, scope: &Scope, entries: Vec<Entry>) -> Result<Vec<Entry>, AllocError>
+fn of_others(
+    alloc: Global,
+    scope: &MeetingScope,
+    entries: Vec<Entry>,
+) -> Result<Vec<Entry>, AllocError>
     ensures { IfOk result (λ v. v.items ≡ of_others scope.now.left_out.items entries.items) }
 {
     let mut others = Vec::with_capacity(alloc, entries.len())?;
@@ -119,7 +123,7 @@ fn in_sequence(
 /// What a site of this version vector takes of a batch.
 pub(crate) fn sift(
     alloc: Global,
-    scope: &Scope,
+    scope: &MeetingScope,
     vector: &Vector,
     batch: Vec<Entry>,
 ) -> Result<Sifted, AllocError>

@@ -3,9 +3,9 @@
 ghost use Rattle.std.specs.Prelude.{◌≡◌, Err, MatchResult, Ok};
 ghost use Rattle.td_replica.specs.declared.refusal.TakeError.TheVariants as take_error;
 ghost use Rattle.td_meeting.specs.declared.error.MeetingError.TheVariants as meeting_error;
-ghost use Rattle.td_checked_meetings.specs.Steps.{Answered, Finished, Greeted, Settled};
+ghost use Rattle.td_checked_meetings.specs.Steps.{AnsweredInScope, FinishedInScope, GreetedInScope, SettledInScope};
 
-use crate::scope::Scope;
+use crate::scope::MeetingScope;
 use crate::sending::{put_own, send};
 use crate::taking::{Received, receive};
 use std::alloc::Global;
@@ -19,10 +19,10 @@ use td_stamps::Vector;
 pub fn greet<R: Replica, K: Sink>(
     alloc: Global,
     site: &R,
-    scope: &Scope,
+    scope: &MeetingScope,
     sink: &mut K,
 ) -> Result<(), MeetingError>
-    ensures { Greeted (R.seen site.now) scope.now (K.held sink.old) result (K.held sink.new) }
+    ensures { GreetedInScope (R.seen site.now) scope.now (K.held sink.old) result (K.held sink.new) }
 {
     if !site.is_open() {
         return Err(MeetingError::Broken);
@@ -35,11 +35,11 @@ pub fn greet<R: Replica, K: Sink>(
 pub fn answer<R: Replica, S: Source, K: Sink>(
     alloc: Global,
     site: &R,
-    scope: &Scope,
+    scope: &MeetingScope,
     source: &mut S,
     sink: &mut K,
 ) -> Result<Vector, MeetingError>
-    ensures { Answered (R.seen site.now) scope.now (S.left source.old) (S.left source.new) (K.held sink.old) result (K.held sink.new) }
+    ensures { AnsweredInScope (R.seen site.now) scope.now (S.left source.old) (S.left source.new) (K.held sink.old) result (K.held sink.new) }
 {
     if !site.is_open() {
         return Err(MeetingError::Broken);
@@ -63,12 +63,12 @@ pub fn answer<R: Replica, S: Source, K: Sink>(
 pub fn settle<R: Replica, S: Source, K: Sink>(
     alloc: Global,
     site: &mut R,
-    scope: &Scope,
+    scope: &MeetingScope,
     source: &mut S,
     sink: &mut K,
     meter: &mut Meter,
 ) -> Result<Received, MeetingError>
-    ensures settled { Settled (R.seen site.old) scope.now (S.left source.old) (S.left source.new) (K.held sink.old) result (K.held sink.new) (R.seen site.new) }
+    ensures settled { SettledInScope (R.seen site.old) scope.now (S.left source.old) (S.left source.new) (K.held sink.old) result (K.held sink.new) (R.seen site.new) }
     ensures journal { result ≡ Err (meeting_error.Take take_error.JournalWrite) → R.failed site.old site.new }
     ensures journaled { R.journaled site.old → R.journaled site.new }
 {
@@ -95,11 +95,11 @@ pub fn settle<R: Replica, S: Source, K: Sink>(
 pub fn finish<R: Replica, S: Source>(
     alloc: Global,
     site: &mut R,
-    scope: &Scope,
+    scope: &MeetingScope,
     source: &mut S,
     meter: &mut Meter,
 ) -> Result<Received, MeetingError>
-    ensures finished { Finished (R.seen site.old) scope.now (S.left source.old) (S.left source.new) result (R.seen site.new) }
+    ensures finished { FinishedInScope (R.seen site.old) scope.now (S.left source.old) (S.left source.new) result (R.seen site.new) }
     ensures journal { result ≡ Err (meeting_error.Take take_error.JournalWrite) → R.failed site.old site.new }
     ensures journaled { R.journaled site.old → R.journaled site.new }
 {

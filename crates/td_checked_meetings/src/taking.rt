@@ -8,7 +8,7 @@ ghost use Rattle.td_replica.specs.declared.refusal.TakeError.TheVariants as take
 ghost use Rattle.td_checked_meetings.specs.Steps.{NotReceived, Receives};
 ghost use Rattle.td_checked_meetings.specs.ForProofs as proofs;
 
-use crate::scope::Scope;
+use crate::scope::MeetingScope;
 use crate::sifting::{Beyond, Sifted, sift};
 use std::alloc::Global;
 use td_frames::{FrameError, MOST_ENTRIES, Version, read_entries};
@@ -43,7 +43,7 @@ fn not_taken(error: TakeError) -> MeetingError
 fn sift_batch<R: Replica>(
     alloc: Global,
     site: &R,
-    scope: &Scope,
+    scope: &MeetingScope,
     batch: Vec<Entry>,
 ) -> Result<Sifted, MeetingError>
     requires { (R.seen site.now).live ≡ true }
@@ -66,7 +66,7 @@ fn sift_batch<R: Replica>(
 fn take_sifted<R: Replica>(
     alloc: Global,
     site: &mut R,
-    scope: &Scope,
+    scope: &MeetingScope,
     batch: Vec<Entry>,
     meter: &mut Meter,
 ) -> Result<Received, MeetingError>
@@ -98,7 +98,7 @@ fn take_sifted<R: Replica>(
 fn take_prefix<R: Replica>(
     alloc: Global,
     site: &mut R,
-    scope: &Scope,
+    scope: &MeetingScope,
     batch: Vec<Entry>,
     error: FrameError,
     meter: &mut Meter,
@@ -121,7 +121,7 @@ fn take_prefix<R: Replica>(
 fn stopped<R: Replica>(
     alloc: Global,
     site: &mut R,
-    scope: &Scope,
+    scope: &MeetingScope,
     batch: Vec<Entry>,
     error: FrameError,
     meter: &mut Meter,
@@ -145,7 +145,7 @@ fn stopped<R: Replica>(
 pub(crate) fn receive<R: Replica, S: Source>(
     alloc: Global,
     site: &mut R,
-    scope: &Scope,
+    scope: &MeetingScope,
     source: &mut S,
     meter: &mut Meter,
 ) -> Result<Received, MeetingError>

@@ -3,7 +3,7 @@
 use crate::inbox::{Awaited, Inbox};
 use crate::outcome::{MeetFault, MeetingResult};
 use std::alloc::Global;
-use td_checked_meetings::{Scope, ask, compare, greet, settle, whole_scope};
+use td_checked_meetings::{MeetingScope, ask, compare, greet, settle, whole_scope};
 use td_comparison::{FirstMessage, is_other_version};
 use td_frames::FrameError;
 use td_io::{Channel, Device, Failed};
@@ -30,7 +30,7 @@ fn compare_over<R: Replica, C: Channel>(
     site: &R,
     link: &mut C,
     inbox: &mut Inbox,
-) -> Result<Scope, MeetFault> {
+) -> Result<MeetingScope, MeetFault> {
     let vector = match ask(alloc, site, link) {
         Ok(vector) => vector,
         Err(MeetingError::WriteFault { .. }) => return Err(MeetFault::NotCompared),
@@ -53,7 +53,7 @@ fn scope_over<R: Replica, C: Channel>(
     link: &mut C,
     inbox: &mut Inbox,
     first: FirstMessage,
-) -> Result<Scope, MeetFault> {
+) -> Result<MeetingScope, MeetFault> {
     match first {
         FirstMessage::Question => compare_over(alloc, site, link, inbox),
         FirstMessage::Greeting => match whole_scope(alloc, site) {
@@ -67,7 +67,7 @@ fn scope_over<R: Replica, C: Channel>(
 fn exchange_greetings<R: Replica, C: Channel>(
     alloc: Global,
     site: &R,
-    scope: &Scope,
+    scope: &MeetingScope,
     link: &mut C,
     inbox: &mut Inbox,
 ) -> Result<(), MeetingError> {

@@ -1,6 +1,6 @@
 //! What a meeting came to.
 
-use td_checked_meetings::{Received, Scope};
+use td_checked_meetings::{MeetingScope, Received};
 use td_meeting::MeetingError;
 
 /// Why two sites did not greet one another; nothing was taken.
@@ -17,5 +17,5 @@ pub struct MeetingResult {
     /// What was taken, or why the meeting broke off.
     pub received: Result<Received, MeetingError>,
     /// What was to be exchanged.
-    pub scope: Scope,
+    pub scope: MeetingScope,
 }

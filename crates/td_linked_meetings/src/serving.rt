@@ -4,7 +4,7 @@ use crate::inbox::{Awaited, Inbox};
 use crate::outcome::{MeetFault, MeetingResult};
 use std::alloc::Global;
 use td_checked_meetings::{
-    Scope, add_differences, answer, answer_question, finish, greet, whole_scope,
+    MeetingScope, add_differences, answer, answer_question, finish, greet, whole_scope,
 };
 use td_comparison::is_other_version;
 use td_frames::FrameError;
@@ -27,7 +27,7 @@ fn read_differences<C: Channel>(
     alloc: Global,
     link: &mut C,
     inbox: &mut Inbox,
-    scope: &mut Scope,
+    scope: &mut MeetingScope,
 ) -> Result<(), MeetingError> {
     let end = match inbox.read_message(link, Awaited::Differences) {
         Ok(end) => end,
@@ -49,7 +49,7 @@ fn answer_over<R: Replica, C: Channel>(
     link: &mut C,
     inbox: &mut Inbox,
     end: usize,
-) -> Result<Scope, MeetingError> {
+) -> Result<MeetingScope, MeetingError> {
     if is_other_version(inbox.bytes()) {
         return Err(refuse_version(link));
     }
@@ -70,7 +70,7 @@ fn scope_over<R: Replica, C: Channel>(
     site: &R,
     link: &mut C,
     inbox: &mut Inbox,
-) -> Result<Scope, MeetingError> {
+) -> Result<MeetingScope, MeetingError> {
     let end = match inbox.read_message(link, Awaited::Opening) {
         Ok(end) => end,
         Err(error) => return Err(error),
@@ -86,7 +86,7 @@ fn scope_over<R: Replica, C: Channel>(
 fn answer_greeting<R: Replica, C: Channel>(
     alloc: Global,
     site: &R,
-    scope: &Scope,
+    scope: &MeetingScope,
     link: &mut C,
     greeting: &[u8],
 ) -> Result<(), MeetingError> {
@@ -105,7 +105,7 @@ fn answer_greeting<R: Replica, C: Channel>(
 fn exchange_greetings<R: Replica, C: Channel>(
     alloc: Global,
     site: &R,
-    scope: &Scope,
+    scope: &MeetingScope,
     link: &mut C,
     inbox: &mut Inbox,
 ) -> Result<(), MeetingError> {

@@ -12,7 +12,7 @@ use std::io::Write;
 use std::net::SocketAddr;
 use std::rt::Runtime;
 use td_changes::Changes;
-use td_checked_meetings::{Received, Scope, add_differences, whole_scope};
+use td_checked_meetings::{MeetingScope, Received, add_differences, whole_scope};
 use td_comparison::{FirstMessage, is_other_version};
 use td_event_loop::{MeetingOutcome, MeetingReport, Outbox, PeerRefusal, StepResult};
 use td_frames::FrameError;
@@ -156,7 +156,7 @@ impl<R: Changes + Catalogued + Drop, H: Runtime + AllocGlobal> SiteDesk<'_, R, H
     }
 
     // Writes the greeting of the site for a peer that does not compare.
-    fn greet(&self, out: &mut Outbox) -> Result<Scope, MeetingError> {
+    fn greet(&self, out: &mut Outbox) -> Result<MeetingScope, MeetingError> {
         let scope = match whole_scope(self.alloc, &self.site) {
             Ok(scope) => scope,
             Err(error) => return Err(error),
@@ -283,7 +283,7 @@ impl<R: Changes + Catalogued + Drop, H: Runtime + AllocGlobal> SiteDesk<'_, R, H
     }
 
     // The scope of a meeting; that of all that is held, where the peer did not compare.
-    fn take_scope(&mut self, meeting: usize) -> Result<Scope, MeetingError> {
+    fn take_scope(&mut self, meeting: usize) -> Result<MeetingScope, MeetingError> {
         match self.scopes.take(meeting) {
             Some(MeetingState::InScope(scope)) => Ok(scope),
             _ => whole_scope(self.alloc, &self.site),
@@ -295,7 +295,7 @@ impl<R: Changes + Catalogued + Drop, H: Runtime + AllocGlobal> SiteDesk<'_, R, H
     fn answer_in_scope(
         &mut self,
         meeting: usize,
-        scope: &Scope,
+        scope: &MeetingScope,
         greeting: &[u8],
         out: &mut Outbox,
     ) -> StepResult {
@@ -391,7 +391,7 @@ impl<R: Changes + Catalogued + Drop, H: Runtime + AllocGlobal> SiteDesk<'_, R, H
     fn push_step(
         &self,
         words: &mut String,
-        scope: &Scope,
+        scope: &MeetingScope,
         received: Result<Received, MeetingError>,
         before: Option<&Snapshot>,
     ) -> Result<(), AllocError> {
@@ -411,7 +411,7 @@ impl<R: Changes + Catalogued + Drop, H: Runtime + AllocGlobal> SiteDesk<'_, R, H
     // The words of a step that took entries, or failed.
     fn step_words(
         &self,
-        scope: &Scope,
+        scope: &MeetingScope,
         received: Result<Received, MeetingError>,
         before: Option<&Snapshot>,
     ) -> Result<String, AllocError> {
@@ -425,7 +425,7 @@ impl<R: Changes + Catalogued + Drop, H: Runtime + AllocGlobal> SiteDesk<'_, R, H
     fn note_received(
         &mut self,
         meeting: usize,
-        scope: &Scope,
+        scope: &MeetingScope,
         received: Result<Received, MeetingError>,
         before: Option<&Snapshot>,
     ) {

@@ -2,7 +2,7 @@
 
 use std::alloc::{AllocError, Global};
 use std::net::SocketAddr;
-use td_checked_meetings::Scope;
+use td_checked_meetings::MeetingScope;
 use td_event_loop::MOST_MEETINGS;
 use td_stamps::Vector;
 
@@ -15,7 +15,7 @@ pub(crate) enum MeetingState {
     /// The peer was asked with digests of what this version vector counts.
     Asked(Vector),
     /// It is known what is exchanged.
-    InScope(Scope),
+    InScope(MeetingScope),
 }
 
 /// Whether a peer compares.

@@ -2,7 +2,7 @@
 
 use std::alloc::Global;
 use td_checked_meetings::{
-    Received, Scope, answer, answer_question, ask, compare, finish, greet, settle,
+    MeetingScope, Received, answer, answer_question, ask, compare, finish, greet, settle,
 };
 use td_event_loop::Outbox;
 use td_io::Device;
@@ -26,7 +26,7 @@ pub(crate) fn answer_question_into<R: Replica>(
     site: &R,
     question: &[u8],
     out: &mut Outbox,
-) -> Result<Scope, MeetingError> {
+) -> Result<MeetingScope, MeetingError> {
     answer_question(alloc, site, question, &mut Device::new(out))
 }
 
@@ -37,7 +37,7 @@ pub(crate) fn compare_into<R: Replica>(
     vector: Vector,
     answer: &[u8],
     out: &mut Outbox,
-) -> Result<Scope, MeetingError> {
+) -> Result<MeetingScope, MeetingError> {
     let mut sink = Device::new(out);
     let scope = match compare(alloc, site, vector, answer, &mut sink) {
         Ok(scope) => scope,
@@ -53,7 +53,7 @@ pub(crate) fn compare_into<R: Replica>(
 pub(crate) fn greet_into<R: Replica>(
     alloc: Global,
     site: &R,
-    scope: &Scope,
+    scope: &MeetingScope,
     out: &mut Outbox,
 ) -> Result<(), MeetingError> {
     greet(alloc, site, scope, &mut Device::new(out))
@@ -63,7 +63,7 @@ pub(crate) fn greet_into<R: Replica>(
 pub(crate) fn answer_bytes<R: Replica>(
     alloc: Global,
     site: &R,
-    scope: &Scope,
+    scope: &MeetingScope,
     greeting: &[u8],
     out: &mut Outbox,
 ) -> Result<(), MeetingError> {
@@ -83,7 +83,7 @@ pub(crate) fn answer_bytes<R: Replica>(
 pub(crate) fn settle_bytes<R: Replica>(
     alloc: Global,
     site: &mut R,
-    scope: &Scope,
+    scope: &MeetingScope,
     reply: &[u8],
     out: &mut Outbox,
     meter: &mut Meter,
@@ -102,7 +102,7 @@ pub(crate) fn settle_bytes<R: Replica>(
 pub(crate) fn finish_bytes<R: Replica>(
     alloc: Global,
     site: &mut R,
-    scope: &Scope,
+    scope: &MeetingScope,
     entries: &[u8],
     meter: &mut Meter,
 ) -> Result<Received, MeetingError> {

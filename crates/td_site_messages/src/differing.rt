@@ -2,13 +2,13 @@
 
 use std::alloc::{AllocError, Global};
 use std::collections::BTreeSet;
-use td_checked_meetings::{Beyond, Received, Scope};
+use td_checked_meetings::{Beyond, MeetingScope, Received};
 
 /// The most sites that are named.
 const MOST_NAMED: usize = 10;
 
 // The sites that are left out, each once.
-fn left_out(alloc: Global, scope: &Scope) -> Result<BTreeSet<u16>, AllocError> {
+fn left_out(alloc: Global, scope: &MeetingScope) -> Result<BTreeSet<u16>, AllocError> {
     let mut sites = BTreeSet::new(alloc);
     for site in &scope.left_out {
         sites.insert(*site)?;
@@ -40,7 +40,7 @@ fn push_beyond(out: &mut String, beyond: Beyond) -> Result<(), AllocError> {
 }
 
 /// Appends a line for the sites of which statements differ, and none if no site is left out.
-pub fn push_differing(out: &mut String, scope: &Scope) -> Result<(), AllocError> {
+pub fn push_differing(out: &mut String, scope: &MeetingScope) -> Result<(), AllocError> {
     let sites = left_out(*out.allocator(), scope)?;
     if sites.is_empty() {
         return Ok(());
