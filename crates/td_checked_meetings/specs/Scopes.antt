@@ -16,7 +16,7 @@ is_left_out sites e = list_any (λ n. n == e.site) sites
 abbrev pub is_in_scope : List ℕ → VersionVector → Entry → Bool
 is_in_scope left_out own e = not (lacks own e) && not (is_left_out left_out e)
 
--- what a site of one vector sends_in_scope to one of another: what is after the other's
+-- what a site of one vector sends to one of another: what is after the other's
 abbrev pub sent : List ℕ → VersionVector → VersionVector → List Entry → List Entry
 sent left_out own other xs = filter (is_in_scope left_out own) (after_vector other xs)
 

@@ -32,7 +32,7 @@ use Rattle.td_checked_meetings.specs.declared.taking.Received.{Received}
 abbrev pub greets : Seen → MeetingScope → List ℕ
 greets s c = greeting_frame s.site s.script (by_site.entries c.vector)
 
--- what a site sends_in_scope that has these entries, after another one's vector
+-- what a site sends that has these entries, after another one's vector
 abbrev pub sends_in_scope : MeetingScope → VersionVector → List Entry → List ℕ
 sends_in_scope c v xs = stream Second (sent c.left_out.items c.vector v xs)
 

@@ -121,8 +121,8 @@ fn answer_to<R: Replica>(
     })
 }
 
-/// The second site reads the first one's digests, writes its own of the same sites, and hands them on. Returns the scope
-/// of the meeting, as far as it is known here.
+/// The second site reads the first one's digests, writes its own of the same sites, and hands them on. Returns the
+/// scope of the meeting, as far as it is known here.
 pub fn answer_question<R: Replica, K: Sink>(
     alloc: Global,
     site: &R,

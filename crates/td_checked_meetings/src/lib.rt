@@ -16,9 +16,9 @@
 //!
 //! Definitions to trust, in `specs/`: Comparing, Scopes, Steps.
 //!
-//! td_checked_meetings sees a site as a `Replica`, and messages as bytes. Between the steps of one meeting it keeps a
-//! `MeetingScope`, which its caller holds, and nothing between two meetings. What a caller does about sites that differ is its
-//! own affair.
+//! td_checked_meetings sees a site as a `Replica`, and messages as bytes. Between the steps of one meeting its caller
+//! keeps a `MeetingScope`; between two meetings nothing is kept. What a caller does about sites that differ is its own
+//! affair.
 #![tactic(auto)]
 
 mod comparing;
