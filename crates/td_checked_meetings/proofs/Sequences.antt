@@ -23,7 +23,7 @@ swapped false true m n k = refl
 swapped false false m n k = refl
 
 -- one entry more
-last_seq-append : (site : ℕ) (xs : List Entry) (e : Entry) → last_seq site (xs ++ e ∷ []) ≡ cond (eqb e.site site) (max e.seq (last_seq site xs)) (last_seq site xs)
+pub last_seq-append : (site : ℕ) (xs : List Entry) (e : Entry) → last_seq site (xs ++ e ∷ []) ≡ cond (eqb e.site site) (max e.seq (last_seq site xs)) (last_seq site xs)
 last_seq-append site [] e = refl
 last_seq-append site (x ∷ xs) e = ap (λ (n : ℕ). cond (eqb x.site site) (max x.seq n) n) (last_seq-append site xs e) ∙ swapped (eqb x.site site) (eqb e.site site) x.seq e.seq (last_seq site xs)
 
@@ -41,7 +41,7 @@ module _ (earlier : List Entry) (numbers : Numbers) (e : Entry) (n : ℕ) (last 
 
 -- ---- entries in sequence
 
-in_step : (v : VersionVector) (earlier : List Entry) (e : Entry) (es : List Entry) (b : Bool) → follows v earlier e ≡ b → in_sequence v earlier (e ∷ es) ≡ cond b (e ∷ in_sequence v (earlier ++ e ∷ []) es) (in_sequence v earlier es)
+pub in_step : (v : VersionVector) (earlier : List Entry) (e : Entry) (es : List Entry) (b : Bool) → follows v earlier e ≡ b → in_sequence v earlier (e ∷ es) ≡ cond b (e ∷ in_sequence v (earlier ++ e ∷ []) es) (in_sequence v earlier es)
 unfolding in_sequence
 in_step v earlier e es b is = ap (λ (t : Bool). cond t (e ∷ in_sequence v (earlier ++ e ∷ []) es) (in_sequence v earlier es)) is
 

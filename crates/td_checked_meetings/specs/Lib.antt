@@ -2,4 +2,5 @@
 pub mod Scopes
 pub mod Comparing
 pub mod Steps
+pub mod Laws
 pub mod ForProofs

@@ -14,7 +14,7 @@
 //! Costs: a comparison takes a pass over what is held at each side, and SHA-256 of the frames of what both hold. The
 //! steps cost what those of td_meeting cost, and a pass over the entries that came.
 //!
-//! Definitions to trust, in `specs/`: Comparing, Scopes, Steps.
+//! Definitions to trust, in `specs/`: Comparing, Laws, Scopes, Steps.
 //!
 //! td_checked_meetings sees a site as a `Replica`, and messages as bytes. Between the steps of one meeting its caller
 //! keeps a `MeetingScope`; between two meetings nothing is kept. What a caller does about sites that differ is its own
@@ -22,6 +22,7 @@
 #![tactic(auto)]
 
 mod comparing;
+pub mod laws;
 mod scope;
 mod sending;
 mod sifting;
