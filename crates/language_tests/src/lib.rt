@@ -1,5 +1,6 @@
 //! Where texts of the language go wrong, what trees mean, which calls of a look-up an evaluation makes, how constraints
-//! may be judged, and which test fails: what only calls can tell. What else there is of it is shown by examples.
+//! may be judged, which test fails, and where a walk along links ends: what only calls can tell. What else there is of
+//! it is shown by examples.
 //!
 //! These tests stand apart from the crates that they call, since a crate is proved once more for the tests in it.
 #![tactic(auto)]
@@ -8,6 +9,8 @@
 mod constraints;
 #[cfg(test)]
 mod databases;
+#[cfg(test)]
+mod links;
 #[cfg(test)]
 mod lookups;
 #[cfg(test)]
