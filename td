@@ -29,6 +29,7 @@ TESTS = {
     "journals": "journals that are cut, damaged, locked and refused, and the program killed while it writes",
     "sockets": "programs that meet over loopback, and peers that damage, cut, flood and are silent",
     "servers": "servers that meet by themselves, are killed, and have hostile clients and peers",
+    "schedules": "honest sites that are killed and cut off, none of which may ever differ",
     "memory": "runs without memory, and streams that fail",
     "anew": "random statements at sites that meet, beside a site that runs them all anew",
     "differential": "random lines over both kinds of sites",
