@@ -1,5 +1,7 @@
 //! The file of alarms.
 
+ghost use Rattle.std.specs.Prelude.{◌≤◌, length, IfOk};
+
 use crate::alarms::Alarm;
 use crate::raising::raise_one;
 use std::alloc::{AllocError, Global};
@@ -18,7 +20,9 @@ fn read_alarm(line: &str) -> Option<Alarm> {
 }
 
 // The alarms of a text, one on each line, or why they are none.
-fn alarms_of(alloc: Global, text: &str) -> Result<Vec<Alarm>, Unreadable> {
+fn alarms_of(alloc: Global, text: &str) -> Result<Vec<Alarm>, Unreadable>
+    ensures { IfOk result (λ v. length v.items ≤ 64) }
+{
     let mut kept = Vec::new(alloc);
     for line in text.lines() {
         let Some(alarm) = read_alarm(line) else {
@@ -36,7 +40,9 @@ pub(crate) fn alarms_in<H: Files + AllocGlobal>(
     alloc: Global,
     host: &H,
     name: &str,
-) -> Result<Vec<Alarm>, Unreadable> {
+) -> Result<Vec<Alarm>, Unreadable>
+    ensures { IfOk result (λ v. length v.items ≤ 64) }
+{
     let bytes = match read_plain(host, name) {
         Ok(bytes) => bytes,
         Err(Unreadable::Missing) => return Ok(Vec::new(alloc)),

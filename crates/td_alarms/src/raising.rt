@@ -1,5 +1,8 @@
 //! Alarms that are raised.
 
+ghost use Rattle.std.specs.Prelude.{◌≡◌, ◌≤◌, length, OnOk};
+ghost use Rattle.td_alarms.specs.Raising.{Raises, RaisesEach};
+
 use crate::alarms::Alarm;
 use std::alloc::AllocError;
 use std::net::IpAddr;
@@ -8,7 +11,10 @@ use std::net::IpAddr;
 pub const MOST_ALARMS: usize = 64;
 
 /// Adds an alarm at the end, unless it is there or no more are kept.
-pub(crate) fn raise_one(kept: &mut Vec<Alarm>, alarm: &Alarm) -> Result<(), AllocError> {
+pub(crate) fn raise_one(kept: &mut Vec<Alarm>, alarm: &Alarm) -> Result<(), AllocError>
+    ensures raised { OnOk result (Raises alarm.now kept.old.items kept.new.items) }
+    ensures few { length kept.old.items ≤ 64 → length kept.new.items ≤ 64 }
+{
     if kept.len() >= MOST_ALARMS || kept.contains(alarm) {
         return Ok(());
     }
@@ -21,7 +27,10 @@ pub(crate) fn raise_each(
     kept: &mut Vec<Alarm>,
     sites: &[u16],
     address: IpAddr,
-) -> Result<(), AllocError> {
+) -> Result<(), AllocError>
+    ensures raised { OnOk result (RaisesEach address sites.now kept.old.items kept.new.items) }
+    ensures few { length kept.old.items ≤ 64 → length kept.new.items ≤ 64 }
+{
     for at in 0..sites.len() {
         let site = sites[at];
         raise_one(kept, &Alarm { site, address })?;
