@@ -5,7 +5,7 @@ use crate::outcome::{MeetFault, MeetingResult};
 use std::alloc::Global;
 use td_checked_meetings::{MeetingScope, ask, compare, greet, settle, whole_scope};
 use td_comparison::{FirstMessage, is_other_version};
-use td_frames::FrameError;
+use td_frames::{FrameError, read_greeting};
 use td_io::{Channel, Device, Failed};
 use td_meeting::MeetingError;
 use td_replica::Replica;
@@ -63,14 +63,23 @@ fn scope_over<R: Replica, C: Channel>(
     }
 }
 
-// Greets the other site, and reads its greeting and entries.
+// Up to which number a greeting says that all statements of a site are there: none if it is no greeting.
+fn number_in(alloc: Global, greeting: &[u8], site: u16) -> u32 {
+    match read_greeting(alloc, &mut Device::new(greeting)) {
+        Ok(greeting) => greeting.vector.number(site),
+        Err(_) => 0,
+    }
+}
+
+// Greets the other site, and reads its greeting and entries. Returns up to which number it has all statements of this
+// one.
 fn exchange_greetings<R: Replica, C: Channel>(
     alloc: Global,
     site: &R,
     scope: &MeetingScope,
     link: &mut C,
     inbox: &mut Inbox,
-) -> Result<(), MeetingError> {
+) -> Result<u32, MeetingError> {
     match greet(alloc, site, scope, link) {
         Ok(()) => {}
         Err(error) => return Err(error),
@@ -79,8 +88,13 @@ fn exchange_greetings<R: Replica, C: Channel>(
         Ok(()) => {}
         Err(Failed) => return Err(MeetingError::WriteFault { taken: 0 }),
     }
-    match inbox.read_message(link, Awaited::Greeting) {
-        Ok(end) => inbox.read_entries(link, end),
+    let end = match inbox.read_message(link, Awaited::Greeting) {
+        Ok(end) => end,
+        Err(error) => return Err(error),
+    };
+    let own_there = number_in(alloc, inbox.front(end), site.site());
+    match inbox.read_entries(link, end) {
+        Ok(()) => Ok(own_there),
         Err(error) => Err(error),
     }
 }
@@ -98,14 +112,18 @@ pub fn call<R: Replica, C: Channel>(
         Err(error) => return Err(MeetFault::Failed(error)),
     };
     let scope = scope_over(alloc, site, link, &mut inbox, first)?;
-    match exchange_greetings(alloc, site, &scope, link, &mut inbox) {
-        Ok(()) => {}
+    let own_there = match exchange_greetings(alloc, site, &scope, link, &mut inbox) {
+        Ok(number) => number,
         Err(error) => return Err(MeetFault::Failed(error)),
-    }
+    };
     let mut reply = Device::new(inbox.bytes());
     let received = match settle(alloc, site, &scope, &mut reply, link, meter) {
         Ok(received) => Ok(received),
         Err(error) => Err(inbox.cause(error)),
     };
-    Ok(MeetingResult { received, scope })
+    Ok(MeetingResult {
+        received,
+        scope,
+        own_there,
+    })
 }

@@ -126,6 +126,11 @@ impl Inbox {
         Ok(())
     }
 
+    /// Whether the link failed.
+    pub(crate) fn has_failed(&self) -> bool {
+        self.has_failed
+    }
+
     /// Why a step stopped: the bytes ended too soon because the link failed, if it did.
     pub(crate) fn cause(&self, error: MeetingError) -> MeetingError {
         match error {

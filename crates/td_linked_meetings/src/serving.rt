@@ -28,17 +28,18 @@ fn read_differences<C: Channel>(
     link: &mut C,
     inbox: &mut Inbox,
     scope: &mut MeetingScope,
-) -> Result<(), MeetingError> {
+) -> Result<(), MeetFault> {
     let end = match inbox.read_message(link, Awaited::Differences) {
+        Ok(0) if !inbox.has_failed() => return Err(MeetFault::OnlyCompared),
         Ok(end) => end,
-        Err(error) => return Err(error),
+        Err(error) => return Err(MeetFault::Failed(error)),
     };
     match add_differences(alloc, scope, inbox.front(end)) {
         Ok(()) => {
             inbox.drop_front(end);
             Ok(())
         }
-        Err(error) => Err(error),
+        Err(error) => Err(MeetFault::Failed(inbox.cause(error))),
     }
 }
 
@@ -49,18 +50,18 @@ fn answer_over<R: Replica, C: Channel>(
     link: &mut C,
     inbox: &mut Inbox,
     end: usize,
-) -> Result<MeetingScope, MeetingError> {
+) -> Result<MeetingScope, MeetFault> {
     if is_other_version(inbox.bytes()) {
-        return Err(refuse_version(link));
+        return Err(MeetFault::Failed(refuse_version(link)));
     }
     let mut scope = match answer_question(alloc, site, inbox.front(end), link) {
         Ok(scope) => scope,
-        Err(error) => return Err(inbox.cause(error)),
+        Err(error) => return Err(MeetFault::Failed(inbox.cause(error))),
     };
     inbox.drop_front(end);
     match read_differences(alloc, link, inbox, &mut scope) {
         Ok(()) => Ok(scope),
-        Err(error) => Err(inbox.cause(error)),
+        Err(error) => Err(error),
     }
 }
 
@@ -70,28 +71,31 @@ fn scope_over<R: Replica, C: Channel>(
     site: &R,
     link: &mut C,
     inbox: &mut Inbox,
-) -> Result<MeetingScope, MeetingError> {
+) -> Result<MeetingScope, MeetFault> {
     let end = match inbox.read_message(link, Awaited::Opening) {
         Ok(end) => end,
-        Err(error) => return Err(error),
+        Err(error) => return Err(MeetFault::Failed(error)),
     };
     if inbox.bytes().first() == Some(&b'J') {
-        answer_over(alloc, site, link, inbox, end)
-    } else {
-        whole_scope(alloc, site)
+        return answer_over(alloc, site, link, inbox, end);
+    }
+    match whole_scope(alloc, site) {
+        Ok(scope) => Ok(scope),
+        Err(error) => Err(MeetFault::Failed(error)),
     }
 }
 
-// Reads a greeting, and answers it. A site that is refused is greeted all the same, by which it sees why.
+// Reads a greeting, and answers it. A site that is refused is greeted all the same, by which it sees why. Returns up to
+// which number it has all statements of this one.
 fn answer_greeting<R: Replica, C: Channel>(
     alloc: Global,
     site: &R,
     scope: &MeetingScope,
     link: &mut C,
     greeting: &[u8],
-) -> Result<(), MeetingError> {
+) -> Result<u32, MeetingError> {
     match answer(alloc, site, scope, &mut Device::new(greeting), link) {
-        Ok(_) => Ok(()),
+        Ok(vector) => Ok(vector.number(site.site())),
         Err(error @ (MeetingError::OtherScript | MeetingError::SameSite)) => {
             let _greeted = greet(alloc, site, scope, link);
             let _flushed = link.flush();
@@ -101,24 +105,28 @@ fn answer_greeting<R: Replica, C: Channel>(
     }
 }
 
-// Exchanges greetings, and reads the entries of the other site.
+// Exchanges greetings, and reads the entries of the other site. Returns up to which number that has all statements of
+// this one.
 fn exchange_greetings<R: Replica, C: Channel>(
     alloc: Global,
     site: &R,
     scope: &MeetingScope,
     link: &mut C,
     inbox: &mut Inbox,
-) -> Result<(), MeetingError> {
+) -> Result<u32, MeetingError> {
     let end = match inbox.read_message(link, Awaited::Greeting) {
         Ok(end) => end,
         Err(error) => return Err(error),
     };
-    match answer_greeting(alloc, site, scope, link, inbox.front(end)) {
-        Ok(()) => {}
+    let own_there = match answer_greeting(alloc, site, scope, link, inbox.front(end)) {
+        Ok(number) => number,
         Err(error) => return Err(inbox.cause(error)),
-    }
+    };
     inbox.drop_front(end);
-    inbox.read_entries(link, 0)
+    match inbox.read_entries(link, 0) {
+        Ok(()) => Ok(own_there),
+        Err(error) => Err(error),
+    }
 }
 
 /// Meets the site that opened this link, which compares digests first or does not.
@@ -132,18 +140,19 @@ pub fn serve<R: Replica, C: Channel>(
         Ok(inbox) => inbox,
         Err(error) => return Err(MeetFault::Failed(error)),
     };
-    let scope = match scope_over(alloc, site, link, &mut inbox) {
-        Ok(scope) => scope,
+    let scope = scope_over(alloc, site, link, &mut inbox)?;
+    let own_there = match exchange_greetings(alloc, site, &scope, link, &mut inbox) {
+        Ok(number) => number,
         Err(error) => return Err(MeetFault::Failed(error)),
     };
-    match exchange_greetings(alloc, site, &scope, link, &mut inbox) {
-        Ok(()) => {}
-        Err(error) => return Err(MeetFault::Failed(error)),
-    }
     let mut entries = Device::new(inbox.bytes());
     let received = match finish(alloc, site, &scope, &mut entries, meter) {
         Ok(received) => Ok(received),
         Err(error) => Err(inbox.cause(error)),
     };
-    Ok(MeetingResult { received, scope })
+    Ok(MeetingResult {
+        received,
+        scope,
+        own_there,
+    })
 }

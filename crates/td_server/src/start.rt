@@ -17,8 +17,8 @@ use td_semantics::Meter;
 use td_site_desk::{DeskParts, Peers, Reversals, SiteDesk};
 use td_site_messages::push_journal;
 use td_site_opening::{
-    ExitStatus, ScriptFile, SiteJournal, StartFault, check_journal, complain, is_lacking,
-    journal_name, open_new, read_script, report, report_unkept,
+    ExitStatus, ScriptFile, SiteJournal, StartFault, complain, find_mark, is_lacking, journal_name,
+    open_new, prepare_journal, read_script, report, report_unkept,
 };
 
 /// What the server of a site goes by.
@@ -43,7 +43,12 @@ impl<'a> Host<'a> {
         push_journal(&mut found, Some(self.journal), self.notes.found(), site)?;
         let mut faults = Device::new(self.rt.stderr());
         complain(&mut faults, found.as_str());
-        Ok(is_lacking(&self.options.site, self.notes, &mut faults))
+        let mark = find_mark(self.rt.alloc(), self.rt, Some(self.journal))?;
+        let mark = match &mark {
+            Some(mark) => Some(mark.as_str()),
+            None => None,
+        };
+        Ok(is_lacking(self.rt, &self.options.site, self.notes, mark, &mut faults))
     }
 
     // The token, or the exit status after a report why there is none.
@@ -175,7 +180,7 @@ fn start_named<R: Opens + Changes + Catalogued + Drop>(
 ) -> ExitStatus
     requires { IsNew (R.seen site) }
 {
-    if let Err(error) = check_journal(rt, &options.site, name) {
+    if let Err(error) = prepare_journal(rt.alloc(), rt, &options.site, name) {
         return report_fault(rt, StartFault::Journal { name, error });
     }
     let notes = Notes::new();

@@ -44,6 +44,15 @@ pub enum DotCommand<'a> {
         address: &'a str,
         is_plain: bool,
     },
+    /// The sites whose statements differ at a site that was met.
+    Alarms,
+    /// No alarm of this site any more.
+    Acknowledge(u16),
+    /// The first statement of a site that differs at the site of this address.
+    Compare {
+        address: &'a str,
+        site: u16,
+    },
     /// A query, asked just after the statement of this stamp.
     At {
         clock: u64,
@@ -193,6 +202,43 @@ fn digest_in(rest: &str) -> DotCommand<'static> {
     }
 }
 
+// What `.alarms` asks for: all of them, or with `acknowledge` that those of a site are let go.
+fn alarms_in(rest: &str) -> DotCommand<'static> {
+    let misused = DotCommand::Misused(".alarms [acknowledge SITE]");
+    if rest.is_empty() {
+        return DotCommand::Alarms;
+    }
+    let Some(("acknowledge", site)) = rest.split_once(' ') else {
+        return misused;
+    };
+    let site = site.trim_ascii();
+    if !is_plain_number(site) {
+        return misused;
+    }
+    match site.parse::<u16>() {
+        Ok(site) => DotCommand::Acknowledge(site),
+        Err(_) => misused,
+    }
+}
+
+// The address and the site that `.compare` names.
+fn compare_in(rest: &str) -> DotCommand<'_> {
+    let misused = DotCommand::Misused(".compare ADDRESS SITE");
+    let Some((address, site)) = rest.rsplit_once(' ') else {
+        return misused;
+    };
+    if !is_plain_number(site) {
+        return misused;
+    }
+    match site.parse::<u16>() {
+        Ok(site) => DotCommand::Compare {
+            address: address.trim_ascii(),
+            site,
+        },
+        Err(_) => misused,
+    }
+}
+
 // A stamp whose numbers do not fit is that of no statement, as behind an `@` in a line for programs.
 fn at_in(rest: &str) -> DotCommand<'_> {
     let misused = DotCommand::Misused(".at CLOCK.SITE QUERY");
@@ -237,6 +283,8 @@ pub fn command_of(line: &str) -> DotCommand<'_> {
         ENTRY => DotCommand::Entry(rest),
         ".serve" => serve_in(rest),
         ".call" => call_in(rest),
+        ".alarms" => alarms_in(rest),
+        ".compare" => compare_in(rest),
         ".at" => at_in(rest),
         ".mode" => mode_in(rest),
         ".timer" => timer_in(rest),

@@ -1,6 +1,8 @@
 //! Commands, which begin with a dot.
 
+use crate::access::Access;
 use crate::answer::Answer;
+use crate::compare::compare;
 use crate::dump::{ENTRY_BYTES, dump, issue_entry};
 use crate::fault::{Fault, FileFault, PlainFault};
 use crate::help::HELP;
@@ -19,6 +21,7 @@ use td_comparison::FirstMessage;
 use td_paths::read_plain;
 use td_replica::Catalogued;
 use td_shell_input::DotCommand;
+use td_site_messages::{push_acknowledged, push_alarms, push_own_alarm};
 use td_stamps::Stamp;
 
 // Has the lines of a file come next.
@@ -52,6 +55,11 @@ fn answer_entry<R: Changes + Catalogued + Drop, P: Platform>(
     if words.len() > ENTRY_BYTES {
         return Err(Fault::Plain(PlainFault::LongLine));
     }
+    push_own_alarm(
+        &mut answer.text,
+        &session.companions.alarms,
+        session.site.site(),
+    )?;
     issue_entry(answer, &mut session.site, words, run.meter, run.notes)
 }
 
@@ -64,6 +72,11 @@ fn answer_import<'t, R: Changes + Catalogued + Drop, P: Platform>(
     relvar: &'t str,
 ) -> Result<(), Fault<'t>> {
     check_open(session.access)?;
+    push_own_alarm(
+        &mut answer.text,
+        &session.companions.alarms,
+        session.site.site(),
+    )?;
     match read_plain(run.host, file) {
         Ok(bytes) => import(
             answer,
@@ -76,6 +89,23 @@ fn answer_import<'t, R: Changes + Catalogued + Drop, P: Platform>(
         ),
         Err(error) => Err(Fault::file(file, FileFault::Unreadable(error))),
     }
+}
+
+// Lets go of the alarms of a site, and says how many there were.
+fn acknowledge<R: Drop, H: Files>(
+    out: &mut String,
+    host: &H,
+    session: &mut Session<R>,
+    site: u16,
+) -> Result<(), Fault<'static>> {
+    if matches!(session.access, Access::ReadOnly) {
+        return Err(Fault::Plain(PlainFault::ReadOnly));
+    }
+    let count = session.companions.alarms.acknowledge(site);
+    if count > 0 && !session.companions.alarms.save(host)? {
+        return Err(Fault::Plain(PlainFault::UnwrittenAlarms));
+    }
+    Ok(push_acknowledged(out, count, site)?)
 }
 
 // Answers a command that shows what the site holds, and changes nothing.
@@ -127,6 +157,9 @@ pub(crate) fn answer_command<'t, R: Changes + Catalogued + Drop, P: Platform>(
             };
             meet(run, session, answer, Way::Call(opening), address)
         }
+        DotCommand::Compare { address, site } => compare(run, &*session, answer, address, site),
+        DotCommand::Alarms => Ok(push_alarms(&mut answer.text, &session.companions.alarms)?),
+        DotCommand::Acknowledge(site) => acknowledge(&mut answer.text, run.host, session, site),
         DotCommand::At { clock, site, query } => ask_at(
             &mut answer.text,
             &session.site,

@@ -19,7 +19,7 @@ use td_io::{Sink, put, write_all};
 use td_listings::{ListingError, listing};
 use td_replica::Catalogued;
 use td_shell_input::{DotCommand, Standing, command_of};
-use td_site_messages::SiteFault;
+use td_site_messages::{SiteFault, push_own_alarm};
 
 // What follows an answer.
 #[derive(Clone, Copy, PartialEq, Eq)]
@@ -105,6 +105,7 @@ fn answer_text<'t, R: Changes + Catalogued + Drop, P: Platform>(
     match standing {
         Standing::Statement => {
             check_open(session.access)?;
+            push_own_alarm(out, &session.companions.alarms, session.site.site())?;
             issue(out, &mut session.site, text, run.meter)
         }
         Standing::Query => ask(out, &session.site, text, session.mode),

@@ -29,6 +29,10 @@ pub(crate) enum PlainFault {
     Unreached,
     /// The other end closed the connection in place of digests.
     NotCompared,
+    /// The file of alarms is not written.
+    UnwrittenAlarms,
+    /// No site has the number 0.
+    NoSite,
 }
 
 impl PlainFault {
@@ -50,6 +54,9 @@ impl PlainFault {
             PlainFault::Unreached => "net: the address cannot be reached, or cannot be served at",
             PlainFault::NotCompared =>
                 "cut: the other end closed the connection at once; a program that does not compare digests, as td_console, is met by .call --plain ADDRESS",
+            PlainFault::NoSite => "site: a site's number is 1 to 65535",
+            PlainFault::UnwrittenAlarms =>
+                "file: the file of alarms cannot be written, so they are there again at the next start; make room, or mend the rights of its folder",
         }
     }
 }

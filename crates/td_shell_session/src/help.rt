@@ -22,6 +22,9 @@ and what begins with IF until each IF has its END IF. An empty line ends it too.
   .serve ADDRESS     waits at an address for another site, and meets it
   .call ADDRESS      meets the site that serves at an address (as 127.0.0.1:7001);
                      .call --plain ADDRESS meets a program that compares no digests
+  .alarms            the sites whose statements differ at a site that was met;
+                     .alarms acknowledge SITE ends those of a site
+  .compare ADDRESS SITE  the first statement of a site that differs here and there
   .mode WORD         shows relations as a table, as csv or as a literal
   .timer on|off      tells how long each answer takes
   .help              this page

@@ -25,6 +25,8 @@ mod access;
 mod answer;
 mod command_line;
 mod commands;
+mod companions;
+mod compare;
 mod conversation;
 mod draft;
 mod dump;

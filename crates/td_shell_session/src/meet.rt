@@ -5,7 +5,9 @@ use crate::fault::{Fault, PlainFault};
 use crate::host::{Platform, Run};
 use crate::session::Session;
 use std::alloc::{AllocError, Global};
-use std::net::SocketAddr;
+use std::net::{IpAddr, SocketAddr};
+use std::rt::Files;
+use td_alarms::Alarms;
 use td_answers::{LinkError, Links};
 use td_changes::Changes;
 use td_checked_meetings::Received;
@@ -22,6 +24,14 @@ use td_site_messages::{
 
 /// What follows the number of other sites' statements that have another outcome: the command that lists them.
 const HINT: &str = " (.refused)";
+
+/// What is said where alarms are raised and not kept.
+const UNKEPT_ALARMS: &str =
+    "WARNING: the file of alarms cannot be written, so this is forgotten when the program ends; make room, or mend the rights of its folder\n";
+
+/// What is said where the other site only asked.
+const ONLY_COMPARED: &str =
+    "the other site compared digests, and ended the connection without a meeting\n";
 
 /// How a site comes to meet another one.
 #[derive(Clone, Copy, PartialEq, Eq)]
@@ -139,6 +149,7 @@ fn say_meeting<R: Changes + Catalogued>(
     match met {
         Ok(outcome) => Ok(say_met(answer, site, before, &outcome, notes)?),
         Err(Unmet::NotLinked(error)) => Err(Fault::from(error)),
+        Err(Unmet::NotBegun(MeetFault::OnlyCompared)) => Ok(answer.text.push_str(ONLY_COMPARED)?),
         Err(Unmet::NotBegun(MeetFault::NotCompared)) => Err(Fault::Plain(PlainFault::NotCompared)),
         Err(Unmet::NotBegun(MeetFault::Failed(error))) => Err(Fault::Site(SiteFault::NotMet(
             error,
@@ -146,10 +157,44 @@ fn say_meeting<R: Changes + Catalogued>(
     }
 }
 
+// Whether the site has all statements of its own number up to this one.
+fn has_own<R: Replica>(alloc: Global, site: &R, number: u32) -> bool {
+    let Ok(held) = site.held() else {
+        return false;
+    };
+    match held.vector(alloc) {
+        Ok(vector) => vector.number(site.site()) >= number,
+        Err(_) => false,
+    }
+}
+
 // Whether a meeting came to its end, and brought what the journal of the site lacked of its own statements.
-fn is_complete<R: Replica>(site: &R, met: &Result<MeetingResult, Unmet>) -> bool {
+fn is_complete<R: Replica>(alloc: Global, site: &R, met: &Result<MeetingResult, Unmet>) -> bool {
     match met {
-        Ok(outcome) => outcome.received.is_ok() && !outcome.scope.leaves_out(site.site()),
+        Ok(outcome) => {
+            outcome.received.is_ok()
+                && !outcome.scope.leaves_out(site.site())
+                && has_own(alloc, site, outcome.own_there)
+        }
+        Err(_) => false,
+    }
+}
+
+// Raises an alarm for each site that a meeting left out. Returns whether all are kept.
+fn keep_alarms<H: Files>(
+    host: &H,
+    alarms: &mut Alarms,
+    met: &Result<MeetingResult, Unmet>,
+    address: IpAddr,
+) -> bool {
+    let Ok(outcome) = met else {
+        return true;
+    };
+    if outcome.scope.left_out.is_empty() {
+        return true;
+    }
+    match alarms.raise(&outcome.scope.left_out, address) {
+        Ok(_) => matches!(alarms.save(host), Ok(true)),
         Err(_) => false,
     }
 }
@@ -171,12 +216,18 @@ fn meet_at<R: Changes + Catalogued + Drop, P: Platform>(
         address,
         run.meter,
     );
-    let is_complete = is_complete(&session.site, &met);
+    let is_complete = is_complete(run.alloc, &session.site, &met);
     session.note_meeting(is_complete);
     if is_complete {
         run.notes.let_go();
+        session.companions.end_rebuild(run.host);
     }
-    say_meeting(answer, &session.site, before, met, run.notes)
+    let is_kept = keep_alarms(run.host, &mut session.companions.alarms, &met, address.ip());
+    say_meeting(answer, &session.site, before, met, run.notes)?;
+    if !is_kept {
+        answer.text.push_str(UNKEPT_ALARMS)?;
+    }
+    Ok(())
 }
 
 /// Meets the site that serves at the address, or waits there for one, which is reported on the output of faults.

@@ -1,6 +1,7 @@
 //! A site, and how far the conversation at it is.
 
 use crate::access::Access;
+use crate::companions::Companions;
 use crate::draft::Draft;
 use crate::fault::{Fault, PlainFault};
 use crate::inputs::Inputs;
@@ -13,6 +14,7 @@ use td_shell_input::Mode;
 pub(crate) struct Session<R: Drop> {
     pub site: R,
     pub access: Access,
+    pub companions: Companions,
     pub inputs: Inputs,
     pub draft: Draft,
     pub mode: Mode,
@@ -30,12 +32,14 @@ impl<R: Drop> Session<R> {
         alloc: Global,
         site: R,
         access: Access,
+        companions: Companions,
         inputs: Inputs,
         is_prompted: bool,
     ) -> Session<R> {
         Session {
             site,
             access,
+            companions,
             inputs,
             draft: Draft::new(alloc),
             mode: Mode::Table,

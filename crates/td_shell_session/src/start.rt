@@ -3,26 +3,34 @@
 ghost use Rattle.td_journal.specs.Reopening.{IsNew};
 
 use crate::access::Access;
+use crate::companions::Companions;
 use crate::conversation::converse;
 use crate::ended::SessionEnd;
 use crate::host::{Platform, Run};
 use crate::inputs::Inputs;
-use crate::session::Session;
+use crate::session::{Session, check_open};
 use crate::words::ShellOptions;
 use std::alloc::{AllocError, Global};
+use td_alarms::Alarms;
 use td_changes::Changes;
 use td_io::Sink;
 use td_journal::{Reopened, StoreError, keep_journal};
 use td_journal_files::{Contents, read_contents};
+use td_paths::Unreadable;
 use td_replica::{Catalogued, Replica};
-use td_site_messages::{push_journal, push_read_only_journal, push_room};
+use td_site_messages::{
+    push_journal, push_own_gap, push_read_only_journal, push_room, push_start_alarms,
+};
 use td_site_opening::{
-    ExitStatus, JournalFault, OUT_OF_MEMORY, ScriptFile, SiteJournal, StartFault, check_journal,
-    complain, is_lacking, journal_name, open_new, report, report_unkept, take_contents,
+    ExitStatus, JournalFault, OUT_OF_MEMORY, ScriptFile, SiteJournal, StartFault, complain,
+    is_lacking, journal_name, open_new, prepare_journal, report, report_unkept, take_contents,
 };
 
 // What is said at a terminal, since the program edits no lines by itself.
 const LINE_EDITING: &str = "for line editing run: rlwrap ./td_shell ..\n";
+
+/// What follows the alarms of a site that starts: the command that ends them.
+const ALARM_HINT: &str = ", and .alarms acknowledge SITE ends them";
 
 /// Where a site comes from.
 #[derive(Clone, Copy)]
@@ -45,6 +53,21 @@ fn words_of(ended: SessionEnd) -> &'static str {
         SessionEnd::OutOfMemory => OUT_OF_MEMORY,
         SessionEnd::ReadFault => "fault input: the input cannot be read\n",
         SessionEnd::WriteFault => "fault output: the output cannot be written\n",
+    }
+}
+
+impl<'a> Origin<'a> {
+    // The name of the site's journal, if it has one.
+    fn journal(self) -> Option<&'a str> {
+        match self {
+            Origin::New => None,
+            Origin::Kept(name) => Some(name),
+            Origin::Read {
+                name,
+                contents: _,
+                whole: _,
+            } => Some(name),
+        }
     }
 }
 
@@ -77,37 +100,53 @@ fn push_found<R: Replica, P: Platform>(
     }
 }
 
-// Reports what was found of the site's journal, and how much room is left.
+// Reports what was found of the site's journal, how much room is left, and what differs elsewhere.
 fn report_found<R: Replica, P: Platform>(
     run: &mut Run<'_, P>,
     site: &R,
+    alarms: &Alarms,
     origin: Origin<'_>,
 ) -> Result<(), AllocError> {
     let mut found = String::new(run.alloc);
     push_found(&mut found, run, site, origin)?;
+    push_own_gap(&mut found, site)?;
     push_room(&mut found, site)?;
+    push_start_alarms(&mut found, alarms, site.site(), ALARM_HINT)?;
     complain(run.faults, found.as_str());
     Ok(())
 }
 
-// Whether the site may be changed.
-fn access_of<P: Platform>(run: &mut Run<'_, P>, options: &ShellOptions<'_>) -> Access {
+// Whether the site may be changed. The mark is the name of a file that is there until a rebuilt site has met another one.
+fn access_of<P: Platform>(
+    run: &mut Run<'_, P>,
+    options: &ShellOptions<'_>,
+    mark: Option<&str>,
+) -> Access {
     if options.site.is_read_only {
         Access::ReadOnly
     } else if options.site.journal.is_none() && !options.is_in_memory {
         Access::Unkept { received: 0 }
-    } else if is_lacking(&options.site, run.notes, run.faults) {
+    } else if is_lacking(run.host, &options.site, run.notes, mark, run.faults) {
         Access::Lacking
     } else {
         Access::Open
     }
 }
 
+// Whether a site holds nothing yet.
+fn is_new<R: Replica>(site: &R) -> bool {
+    match site.held() {
+        Ok(held) => held.is_empty(),
+        Err(_) => false,
+    }
+}
+
 // The lines that come before what is typed: the texts of the command line, and those after the script for a site that
-// holds nothing yet. One that comes back has had them.
+// holds nothing yet and issues statements. One that comes back has had them.
 fn first_lines<R: Replica>(
     alloc: Global,
     site: &R,
+    access: Access,
     typed: &[&str],
     after: Vec<u8>,
 ) -> Result<Inputs, AllocError> {
@@ -115,11 +154,7 @@ fn first_lines<R: Replica>(
     if !typed.is_empty() {
         inputs.read_texts(typed)?;
     }
-    let is_new = match site.held() {
-        Ok(held) => held.is_empty(),
-        Err(_) => false,
-    };
-    if is_new {
+    if is_new(site) && check_open(access).is_ok() {
         let _is_read = inputs.read_file(after)?;
     }
     Ok(inputs)
@@ -147,13 +182,21 @@ fn converse_at<R: Changes + Catalogued + Drop, P: Platform>(
     run: &mut Run<'_, P>,
     options: &ShellOptions<'_>,
     site: R,
+    companions: Companions,
     after: Vec<u8>,
 ) -> Result<ExitStatus, SessionEnd> {
-    let access = access_of(run, options);
+    let access = access_of(run, options, companions.mark());
     let is_prompted = run.terminal.is_input && options.typed.is_empty();
-    match first_lines(run.alloc, &site, &options.typed, after) {
+    match first_lines(run.alloc, &site, access, &options.typed, after) {
         Ok(inputs) => {
-            let mut session = Session::new(run.alloc, site, access, inputs, is_prompted);
+            let mut session = Session::new(
+                run.alloc,
+                site,
+                access,
+                companions,
+                inputs,
+                is_prompted,
+            );
             hold(run, &mut session, options.keeps_going)
         }
         Err(error) => Err(SessionEnd::from(error)),
@@ -161,6 +204,22 @@ fn converse_at<R: Changes + Catalogued + Drop, P: Platform>(
 }
 
 // Reports what was found of the site's journal, and converses at the site.
+fn begin_with<R: Changes + Catalogued + Drop, P: Platform>(
+    run: &mut Run<'_, P>,
+    options: &ShellOptions<'_>,
+    site: R,
+    companions: Companions,
+    origin: Origin<'_>,
+    after: Vec<u8>,
+) -> ExitStatus {
+    let ended = match report_found(run, &site, &companions.alarms, origin) {
+        Ok(()) => converse_at(run, options, site, companions, after),
+        Err(error) => Err(SessionEnd::from(error)),
+    };
+    end(ended, run.faults)
+}
+
+// Opens what is beside the journal of the site, reports what was found of its journal, and converses at the site.
 fn begin<R: Changes + Catalogued + Drop, P: Platform>(
     run: &mut Run<'_, P>,
     options: &ShellOptions<'_>,
@@ -168,11 +227,12 @@ fn begin<R: Changes + Catalogued + Drop, P: Platform>(
     origin: Origin<'_>,
     after: Vec<u8>,
 ) -> ExitStatus {
-    let ended = match report_found(run, &site, origin) {
-        Ok(()) => converse_at(run, options, site, after),
-        Err(error) => Err(SessionEnd::from(error)),
-    };
-    end(ended, run.faults)
+    let journal = origin.journal();
+    match Companions::open(run.alloc, run.host, journal) {
+        Ok(companions) => begin_with(run, options, site, companions, origin, after),
+        Err(Unreadable::OutOfMemory) => end(Err(SessionEnd::OutOfMemory), run.faults),
+        Err(error) => report_journal(run, journal.unwrap_or(""), JournalFault::Alarms(error)),
+    }
 }
 
 // Reports that the journal of this name cannot be used.
@@ -269,7 +329,7 @@ fn start_named<P: Platform>(
 ) -> ExitStatus
     requires { IsNew (P.Site.seen site) }
 {
-    if let Err(error) = check_journal(run.host, &options.site, journal.name) {
+    if let Err(error) = prepare_journal(run.alloc, run.host, &options.site, journal.name) {
         return report_journal(run, journal.name, error);
     }
     if options.site.is_read_only {

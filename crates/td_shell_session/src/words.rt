@@ -24,13 +24,14 @@ pub(crate) struct ShellOptions<'a> {
     pub keeps_going: bool,
 }
 
-// The option of a journal that is only read; it needs --journal, and excludes --new and --forget.
+// The option of a journal that is only read; it needs --journal, and excludes what begins or changes one.
 fn read_only_flag<'a>(alloc: Global) -> Result<Arg<'a>, AllocError> {
     let help = "Reads the journal, whoever has it open, and changes nothing";
     flag(alloc, "read-only", help)
         .requires_arg("journal")?
         .conflicts_with("new")?
-        .conflicts_with("forget")
+        .conflicts_with("forget")?
+        .conflicts_with("rebuild")
 }
 
 // The option of meetings with statements that no journal keeps; it excludes --journal and --read-only, which needs one.

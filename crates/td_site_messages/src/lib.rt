@@ -21,10 +21,12 @@
 //! have no prefix and no line end: each program writes its own.
 #![tactic(auto)]
 
+mod alarms;
 mod changes;
 mod differing;
 mod digest;
 mod fault;
+mod gaps;
 mod journal;
 mod meeting;
 mod outcomes;
@@ -37,10 +39,12 @@ mod type_errors;
 mod unmet;
 mod wording;
 
+pub use alarms::{push_acknowledged, push_alarms, push_own_alarm, push_start_alarms};
 pub use changes::{push_change_count, push_changes};
 pub use differing::{push_differing, push_not_taken};
 pub use digest::push_digest;
 pub use fault::{SiteFault, push_site_fault};
+pub use gaps::push_own_gap;
 pub use journal::{failure_words, push_journal, push_read_only_journal};
 pub use meeting::{MeetingChanges, Snapshot};
 pub use outcomes::{push_log, push_outcome, push_raise, push_reason, push_refused, raise_meaning};

@@ -69,13 +69,22 @@ fn journal_option<'a>(alloc: Global, demand: Demand) -> Arg<'a> {
     option(alloc, "journal", "PREFIX", help).required(demand == Demand::Required)
 }
 
-fn new_flag<'a>(alloc: Global) -> Arg<'a> {
-    flag(alloc, "new", "Begins a journal where none is")
+fn new_flag<'a>(alloc: Global) -> Result<Arg<'a>, AllocError> {
+    flag(alloc, "new", "Begins a journal where none is").requires_arg("journal")
 }
 
-fn forget_flag<'a>(alloc: Global) -> Arg<'a> {
+fn forget_flag<'a>(alloc: Global) -> Result<Arg<'a>, AllocError> {
     let help = "Goes on with a journal that lost statements, without meeting another site first";
-    flag(alloc, "forget", help)
+    flag(alloc, "forget", help).requires_arg("journal")
+}
+
+fn rebuild_flag<'a>(alloc: Global) -> Result<Arg<'a>, AllocError> {
+    let help =
+        "Begins a journal for a site that had one; it issues nothing until it has met another";
+    flag(alloc, "rebuild", help)
+        .requires_arg("journal")?
+        .conflicts_with("new")?
+        .conflicts_with("forget")
 }
 
 /// Adds the script, and the number and the limit of the site that it opens.
@@ -98,6 +107,7 @@ pub fn with_journal<'a>(
 ) -> Result<Command<'a>, AllocError> {
     command
         .arg(journal_option(alloc, demand))?
-        .arg(new_flag(alloc))?
-        .arg(forget_flag(alloc))
+        .arg(new_flag(alloc)?)?
+        .arg(forget_flag(alloc)?)?
+        .arg(rebuild_flag(alloc)?)
 }

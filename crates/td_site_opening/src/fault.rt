@@ -1,6 +1,8 @@
 //! Why a program has no site.
 
+use crate::alarms::push_no_alarms;
 use crate::journals::push_missing;
+use crate::rebuild::push_unmarked;
 use crate::refusal::{file_words, push_not_reopened};
 use crate::script::NoScript;
 use crate::status::ExitStatus;
@@ -21,6 +23,8 @@ pub const OUT_OF_MEMORY: &str = "fault memory: there is not enough memory to go 
 pub enum JournalFault<'a> {
     /// It is there, and was to be begun.
     IsThere,
+    /// It is there, and the site was to be rebuilt.
+    IsInTheWay,
     /// It is not there, and was not to be begun.
     IsMissing {
         /// Whether it could be begun, as one could not that is only read.
@@ -32,6 +36,10 @@ pub enum JournalFault<'a> {
     Unwritten(SyncFailure),
     /// Its file is not read.
     Unreadable(Unreadable),
+    /// The file is not made that is beside it until its site has met another one.
+    Unmarked,
+    /// The file beside it that has its alarms is not read.
+    Alarms(Unreadable),
     /// A new site of this number, limit and script does not come back from what it has.
     NotReopened {
         contents: &'a Contents,
@@ -106,10 +114,17 @@ fn push_reason<H: Files + AllocGlobal + Clone + Drop>(
         JournalFault::IsThere => {
             out.push_str("it is there already; without --new the site goes on with it")
         }
+        JournalFault::IsInTheWay => {
+            out.push_str(
+                "it is there already; move it away first, or go on with it without --rebuild",
+            )
+        }
         JournalFault::IsMissing { can_begin } => push_missing(out, host, name, can_begin),
         JournalFault::Refused(refusal) => out.push_str(file_words(refusal)),
         JournalFault::Unwritten(failure) => out.push_str(failure_words(Some(failure))),
         JournalFault::Unreadable(error) => out.push_str(error.words()),
+        JournalFault::Unmarked => push_unmarked(out, name),
+        JournalFault::Alarms(error) => push_no_alarms(out, name, error),
         JournalFault::NotReopened {
             contents,
             error,

@@ -2,6 +2,7 @@
 
 use crate::fault::JournalFault;
 use crate::options::SiteOptions;
+use crate::rebuild::begin_rebuild;
 use std::alloc::{AllocError, Global};
 use std::fs;
 use std::path::Path;
@@ -22,8 +23,8 @@ pub fn journal_name(
     Ok(Some(format!(in alloc; "{prefix}{site}{ENDING}")?))
 }
 
-/// Whether the journal of this name is there if the site goes on with it, and not there if it is begun.
-pub fn check_journal<H: Files>(
+// Whether the journal of this name is there if the site goes on with it, and not there if it is begun.
+fn check_journal<H: Files>(
     host: &H,
     options: &SiteOptions<'_>,
     name: &str,
@@ -32,11 +33,27 @@ pub fn check_journal<H: Files>(
     if is_there == !options.is_new {
         return Ok(());
     }
-    if is_there {
+    if is_there && options.is_rebuilt {
+        Err(JournalFault::IsInTheWay)
+    } else if is_there {
         Err(JournalFault::IsThere)
     } else {
         let can_begin = !options.is_read_only;
         Err(JournalFault::IsMissing { can_begin })
+    }
+}
+
+/// Checks that the journal of this name is there if the site goes on with it, and not there if it is begun. Beside one
+/// that is begun for a site that is rebuilt a file is made, which is there until the site has met another one.
+pub fn prepare_journal<H: Files>(
+    alloc: Global,
+    host: &H,
+    options: &SiteOptions<'_>,
+    name: &str,
+) -> Result<(), JournalFault<'static>> {
+    match check_journal(host, options, name) {
+        Ok(()) => begin_rebuild(alloc, host, options, name),
+        Err(error) => Err(error),
     }
 }
 

@@ -9,7 +9,7 @@
 //! let script = read_script(alloc, &rt, options.script)?;
 //! let site = open_new::<Site>(alloc, &options, script.text.as_str())?;
 //! if let Some(name) = journal_name(alloc, &options)? {
-//!     check_journal(&rt, &options, name.as_str())?;
+//!     prepare_journal(alloc, &rt, &options, name.as_str())?;
 //!     let kept = keep_journal(alloc, &journals, name.as_str(), site, &mut meter)?;
 //! }
 //! let status = report(alloc, &rt, fault, &mut faults);
@@ -21,10 +21,12 @@
 //! td_site_opening opens a site by `Opens` alone, and reads and writes no journal but by td_journal.
 #![tactic(auto)]
 
+mod alarms;
 mod arguments;
 mod fault;
 mod journals;
 mod options;
+mod rebuild;
 mod refusal;
 mod reporting;
 mod script;
@@ -32,10 +34,12 @@ mod site;
 mod status;
 mod unopened;
 
+pub use alarms::open_alarms;
 pub use arguments::{Demand, flag, list, option, with_journal, with_site};
 pub use fault::{JournalFault, OUT_OF_MEMORY, StartFault};
-pub use journals::{check_journal, journal_name};
+pub use journals::{journal_name, prepare_journal};
 pub use options::{SiteJournal, SiteOptions, site_options};
+pub use rebuild::{end_rebuild, find_mark};
 pub use reporting::{complain, is_lacking, report, report_unkept};
 pub use script::{NoScript, ScriptFile, read_script};
 pub use site::{open_new, take_contents};

@@ -15,6 +15,8 @@ pub struct SiteOptions<'a> {
     pub journal: Option<&'a str>,
     /// Whether a journal is begun; otherwise the site goes on with one.
     pub is_new: bool,
+    /// Whether that is one of a site that had another journal, and lacks what it had.
+    pub is_rebuilt: bool,
     /// Whether it goes on with a journal that has less than it had once.
     pub forgets: bool,
     /// Whether the journal is only read, and left as it is.
@@ -38,7 +40,8 @@ pub fn site_options<'a>(matches: &ArgMatches<'a>) -> SiteOptions<'a> {
         site: matches.get_one::<u16>("site").unwrap_or(1),
         limit: matches.get_one::<usize>("limit").unwrap_or(10_000),
         journal: matches.get_str("journal"),
-        is_new: matches.get_flag("new"),
+        is_new: matches.get_flag("new") || matches.get_flag("rebuild"),
+        is_rebuilt: matches.get_flag("rebuild"),
         forgets: matches.get_flag("forget"),
         is_read_only: false,
     }

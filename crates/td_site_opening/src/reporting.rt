@@ -4,6 +4,7 @@ ghost use Rattle.td_journal.specs.Reopening.{IsNew};
 
 use crate::fault::{JournalFault, OUT_OF_MEMORY, StartFault, push_start_fault};
 use crate::options::{SiteJournal, SiteOptions};
+use crate::rebuild::end_rebuild;
 use crate::site::{open_new, take_contents};
 use crate::status::ExitStatus;
 use std::alloc::Global;
@@ -13,6 +14,10 @@ use td_journal_files::{Notes, Refusal, read_contents};
 use td_replica::Opens;
 use td_semantics::Meter;
 use td_site_messages::LACKING;
+
+/// What is said of a site whose journal was begun anew, and that has met no other one since.
+const REBUILT: &str =
+    "the journal was begun anew by --rebuild, and no meeting has come to its end since\n";
 
 /// Writes a text to the output of faults. Nothing depends on whether that is seen.
 pub fn complain<F: Sink>(faults: &mut F, text: &str) {
@@ -111,19 +116,37 @@ pub fn report_unkept<R: Opens + Drop, H: Files + AllocGlobal + Clone + Drop, F: 
     }
 }
 
-/// Whether the site issues nothing until it has met another one, since its journal has less than it had once. That is
-/// reported. If the words say that it goes on all the same, it issues statements at once.
-pub fn is_lacking<F: Sink>(options: &SiteOptions<'_>, notes: &Notes, faults: &mut F) -> bool {
+// Removes the file of this name, if there is one.
+fn forget_rebuild<H: Files>(host: &H, mark: Option<&str>) {
+    if let Some(mark) = mark {
+        end_rebuild(host, mark);
+    }
+}
+
+/// Whether the site issues nothing until it has met another one: its journal has less than it had once, or a file of the
+/// name `mark` is beside it, since it was begun anew. That is reported. If the words say that it goes on all the same,
+/// it issues statements at once.
+pub fn is_lacking<H: Files, F: Sink>(
+    host: &H,
+    options: &SiteOptions<'_>,
+    notes: &Notes,
+    mark: Option<&str>,
+    faults: &mut F,
+) -> bool {
     let is_short = match notes.found() {
         Some(found) => found.is_short(),
         None => false,
     };
-    if !is_short {
+    if !is_short && mark.is_none() {
         return false;
     }
     if options.forgets {
         notes.let_go();
+        forget_rebuild(host, mark);
         return false;
+    }
+    if mark.is_some() {
+        complain(faults, REBUILT);
     }
     complain(faults, LACKING);
     complain(faults, "\n");
