@@ -81,7 +81,7 @@ impl Calls {
                     _ => 0,
                 };
                 let wait = match outcome {
-                    MeetingOutcome::Complete => self.every,
+                    MeetingOutcome::Complete | MeetingOutcome::Fruitless => self.every,
                     MeetingOutcome::Partial => 0,
                     MeetingOutcome::Failed => backoff(self.every, call.failures),
                 };

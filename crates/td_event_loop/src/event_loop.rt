@@ -55,6 +55,8 @@ pub struct EventLoop {
     peers: Vec<Option<Peer>>,
     calls: Calls,
     buffer: Vec<u8>,
+    /// When it was run first.
+    begun: Option<Instant>,
 }
 
 // A listener at this address, which is watched.
@@ -184,6 +186,7 @@ impl EventLoop {
             peers: empty_slots(alloc, MOST_MEETINGS)?,
             calls: Calls::new(alloc, options.calls, options.every)?,
             buffer: Vec::from_elem(alloc, 0u8, BUFFER)?,
+            begun: None,
         })
     }
 
@@ -491,20 +494,34 @@ impl EventLoop {
         Ok(())
     }
 
+    // The time from which milliseconds are counted: that of the first run.
+    fn begin<H: Clock>(&mut self, host: &H) -> io::Result<Instant> {
+        let begun = match self.begun {
+            Some(begun) => begun,
+            None => Instant::now(host)?,
+        };
+        self.begun = Some(begun);
+        Ok(begun)
+    }
+
     /// Serves clients and peers, and calls the peers that are due, until the server is to end: then no more is
-    /// accepted, answers that are under way are sent, for five seconds at most, and meetings are cut. An error is one
-    /// of the system's own: it refuses to wait, or tells no time.
+    /// accepted, answers that are under way are sent, for five seconds at most, and meetings are cut. If the server is
+    /// to leave, all connections stay, and the loop may be run again for another server. An error is one of the
+    /// system's own: it refuses to wait, or tells no time.
     pub fn run<S: Server, H: Net + Clock + RandomSource>(
         &mut self,
         host: &H,
         server: &mut S,
     ) -> io::Result<()> {
         let mut events = Events::with_capacity(self.alloc, MOST_EVENTS)?;
-        let begun = Instant::now(host)?;
+        let begun = self.begin(host)?;
         let mut is_busy = false;
         for _ in 0..u64::MAX {
             if server.is_stopping() {
                 return self.stop(host, server, &mut events);
+            }
+            if server.is_leaving() {
+                return Ok(());
             }
             self.wait(&mut events, is_busy)?;
             let now = millis(begun.elapsed(host)?);

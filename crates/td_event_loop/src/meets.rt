@@ -53,6 +53,8 @@ pub enum MeetingOutcome {
     Complete,
     /// Some of it was. A peer that was called is called again at once.
     Partial,
+    /// Nothing of it was new, or this site takes nothing now. A peer that was called is called again when it is due.
+    Fruitless,
     /// Nothing was. A peer that was called is called again later each time.
     Failed,
 }
@@ -94,7 +96,13 @@ pub trait Meets {
     fn answer(&mut self, meeting: usize, greeting: &[u8], out: &mut Outbox) -> StepResult;
 
     /// The third step: reads a greeting and entries, and writes what the peer lacks.
-    fn settle(&mut self, meeting: usize, reply: &[u8], out: &mut Outbox) -> StepResult;
+    fn settle(
+        &mut self,
+        meeting: usize,
+        peer: SocketAddr,
+        reply: &[u8],
+        out: &mut Outbox,
+    ) -> StepResult;
 
     /// The fourth step: reads entries.
     fn finish(&mut self, meeting: usize, entries: &[u8]);

@@ -256,7 +256,8 @@ impl Peer {
     // Hands what the peer replied to the site, which writes the entries that the peer lacks; ended where the site
     // stops.
     fn settle<M: Meets>(&mut self, meeting: usize, site: &mut M) -> Progress {
-        if site.settle(meeting, self.inbox.bytes(), &mut self.outbox) == StepResult::Stop {
+        let reply = self.inbox.bytes();
+        if site.settle(meeting, self.address, reply, &mut self.outbox) == StepResult::Stop {
             return Progress::Ended;
         }
         self.stage = Stage::Parting(MeetingSide::First);

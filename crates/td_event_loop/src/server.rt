@@ -16,4 +16,7 @@ pub trait Server: Service + Meets {
 
     /// Whether the program is to end.
     fn is_stopping(&self) -> bool;
+
+    /// Whether another server is to take the place of this one.
+    fn is_leaving(&self) -> bool;
 }

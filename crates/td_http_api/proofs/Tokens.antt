@@ -11,10 +11,11 @@ use Rattle.td_http_api.specs.Services.{Serves}
 kept : {D : Type 0} (answers : Answering D) (guard : Guard) (old : D) (request : Request (List ℕ)) (response : Response) (new : D)
     → Serves answers guard old request response new → ¬ (Bears (string_bytes guard.bearer) request) → new ≡ old
 kept answers guard old request response new (inl page) lacks = page.kept
-kept answers guard old request response new (inr (inl refused)) lacks = refused.kept
-kept answers guard old request response new (inr (inr (inl answered))) lacks = absurd (lacks answered.2.fits.0.bears)
-kept answers guard old request response new (inr (inr (inr (empty, inl same)))) lacks = same
-kept answers guard old request response new (inr (inr (inr (empty, inr made)))) lacks = absurd (lacks made.1.fits.0.bears)
+kept answers guard old request response new (inr (inl health)) lacks = health.kept
+kept answers guard old request response new (inr (inr (inl refused))) lacks = refused.kept
+kept answers guard old request response new (inr (inr (inr (inl answered)))) lacks = absurd (lacks answered.2.fits.0.bears)
+kept answers guard old request response new (inr (inr (inr (inr (empty, inl same))))) lacks = same
+kept answers guard old request response new (inr (inr (inr (inr (empty, inr made))))) lacks = absurd (lacks made.1.fits.0.bears)
 
 pub calls_need_token : {D : Type 0} (answers : Answering D) → CallsNeedToken answers
 calls_need_token answers [] old new same none = ap (λ s. s.desk) same

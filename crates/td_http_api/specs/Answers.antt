@@ -1,8 +1,8 @@
 -- What a desk answers, and which response has it.
-use Rattle.std.specs.Prelude.{◌≡◌, ℕ, List, [], ◌∷◌, ◌++◌, codes, Option, Some, None, Result, Ok, Err, string_bytes}
+use Rattle.std.specs.Prelude.{◌≡◌, ℕ, true, false, List, [], ◌∷◌, ◌++◌, codes, Option, Some, None, Result, Ok, Err, string_bytes}
 use Rattle.http_server.specs.declared.response.Response.{Response}
 use Rattle.json.specs.Print.{print}
-use Rattle.json.specs.Token.{begin_object, end_object, key, string}
+use Rattle.json.specs.Token.{begin_object, end_object, boolean, key, string}
 use Rattle.json.specs.Written.{Written}
 use Rattle.td_http_api.specs.declared.calls.ApiCall.{ApiCall}
 use Rattle.td_http_api.specs.declared.desk.DeskAnswer.{DeskAnswer}
@@ -44,3 +44,9 @@ given_answer (Err e) out = None
 -- the object of a fault with these words
 abbrev pub fault_text : List ℕ → List ℕ
 fault_text words = print (begin_object ∷ key (codes "fault") ∷ string words ∷ end_object ∷ [])
+
+-- whether a site takes statements, and why not
+abbrev pub health_answer : Option (List ℕ) → Answer
+health_answer None = record { status = 200; text = print (begin_object ∷ key (codes "open") ∷ boolean true ∷ end_object ∷ []) }
+health_answer (Some why) =
+    record { status = 503; text = print (begin_object ∷ key (codes "open") ∷ boolean false ∷ key (codes "fault") ∷ string why ∷ end_object ∷ []) }

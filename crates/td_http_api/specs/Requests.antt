@@ -8,7 +8,7 @@ use Rattle.json.specs.Find.{get, as_str, as_number}
 use Rattle.json.specs.Json.{Json, document}
 use Rattle.json.specs.Strict.{HasUniqueKeys}
 use Rattle.td_http_api.specs.declared.calls.ApiCall.{ApiCall}
-use Rattle.td_http_api.specs.declared.calls.ApiCall.TheVariants.{Site, Relvars, Table, Refused, Log, Script, Query, Statement, Acknowledge, Meet, Stop}
+use Rattle.td_http_api.specs.declared.calls.ApiCall.TheVariants.{Site, Relvars, Table, Refused, Log, Script, Digest, Query, Statement, Acknowledge, AcknowledgeAlarms, Meet, Stop}
 use Rattle.td_http_api.specs.declared.members.Member.{Member}
 use Rattle.td_http_api.specs.declared.members.Member.TheVariants as member
 use Rattle.td_http_api.specs.declared.resources.Resource.{Resource}
@@ -49,6 +49,7 @@ GivesInQuery resource name query (Table relvar) = (resource ≡ the.Table) × (n
 GivesInQuery resource name query Refused = (resource ≡ the.Refused) × (query ≡ [])
 GivesInQuery resource name query (Log after) = (resource ≡ the.Log) × (query ≡ text_query member.After (option_copied after))
 GivesInQuery resource name query Script = (resource ≡ the.Script) × (query ≡ [])
+GivesInQuery resource name query Digest = (resource ≡ the.Digest) × (query ≡ [])
 GivesInQuery resource name query _ = ⊥
 
 -- for this resource the members of the body are those of the call
@@ -60,6 +61,7 @@ GivesInBody resource body (Query text at first count) =
 GivesInBody resource body (Statement text key) =
     (resource ≡ the.Statement) × (member_text member.Text body ≡ Some text.now) × (member_text member.Key body ≡ option_copied key)
 GivesInBody resource body (Acknowledge stamp) = (resource ≡ the.Acknowledge) × (member_text member.Stamp body ≡ Some stamp.now)
+GivesInBody resource body (AcknowledgeAlarms site) = (resource ≡ the.AcknowledgeAlarms) × HasCount member.Site body (Some site)
 GivesInBody resource body (Meet address) = (resource ≡ the.Meet) × (member_text member.Address body ≡ Some address.now)
 GivesInBody resource body Stop = resource ≡ the.Stop
 GivesInBody resource body _ = ⊥

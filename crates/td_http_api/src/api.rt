@@ -8,7 +8,7 @@ ghost use Rattle.td_http_api.specs.Answers.{IsAnswer, IsBegun, object_text};
 ghost use Rattle.td_http_api.specs.Guards.{Holds};
 ghost use Rattle.td_http_api.specs.Requests.{AsksFor, GivesInBody, IsFor, query_of};
 ghost use Rattle.td_http_api.specs.Resources.{row_of};
-ghost use Rattle.td_http_api.specs.Services.{ComesTo, LacksMemory, Leads, MayCall, ShowsPage};
+ghost use Rattle.td_http_api.specs.Services.{ComesTo, LacksMemory, Leads, MayCall, ShowsHealth, ShowsPage};
 
 use crate::arguments::{call_of_body, call_of_query};
 use crate::calls::ApiCall;
@@ -16,7 +16,7 @@ use crate::desk::{Desk, DeskAnswer};
 use crate::fault::Fault;
 use crate::guard::{Guard, check_type};
 use crate::resources::{Description, Methods, Resource, Right, Target, target_at};
-use crate::responses::{put_fault, put_json, put_page, put_table};
+use crate::responses::{put_fault, put_health, put_json, put_page, put_table};
 use bytes::Bytes;
 use http::{Request, StatusCode};
 use http_server::{Response, Service};
@@ -81,6 +81,14 @@ impl<D: Desk> Api<D> {
         ensures guard { result.guard ≡ guard }
     {
         Api { desk, alloc, guard }
+    }
+
+    /// The desk and the guard.
+    pub fn into_parts(self) -> (D, Guard)
+        ensures desk { result.0 ≡ self.desk }
+        ensures guard { result.1 ≡ self.guard }
+    {
+        (self.desk, self.guard)
     }
 
     // Answers with a fault, in words and with its status.
@@ -208,8 +216,9 @@ impl<D: Desk> Api<D> {
         requires { IsBlank response.old }
         ensures guard { self.new.guard ≡ self.old.guard }
         ensures ok { OnOk result (ShowsPage self.old.desk request.now self.new.desk
+            ⊎ (ShowsHealth self.old.desk request.now response.new self.new.desk
             ⊎ ComesTo (MayCall self.old.guard request.now) D.answers self.old.desk response.new
-            self.new.desk) }
+            self.new.desk)) }
         ensures err { OnErr result (LacksMemory (MayCall self.old.guard request.now) D.answers
             self.old.desk self.new.desk) }
     {
@@ -219,7 +228,10 @@ impl<D: Desk> Api<D> {
         };
         let Description { methods, right, .. } = target.resource.description();
         match right {
-            Right::Everyone => put_page(response),
+            Right::Everyone => match target.resource {
+                Resource::Health => put_health(self.alloc, response, self.desk.failure()),
+                _ => put_page(response),
+            },
             Right::Bearer if methods == Methods::Post => {
                 self.answer_body(target, request, response)
             }

@@ -102,6 +102,16 @@ fn optional_count(body: &Value<'_>, member: Member) -> Result<Option<u64>, Fault
     }
 }
 
+// The number of a member.
+fn required_count(body: &Value<'_>, member: Member) -> Result<u64, Fault<'static>>
+    ensures { IfOk result (λ count. HasCount member (value_view body.now) (Some count)) }
+{
+    match optional_count(body, member)? {
+        Some(count) => Ok(count),
+        None => Err(Fault::Lacks(member.name())),
+    }
+}
+
 /// The call that a GET makes by its path and its query string.
 pub(crate) fn call_of_query<'a>(
     target: Target<'a>,
@@ -123,6 +133,7 @@ pub(crate) fn call_of_query<'a>(
             after: query_text(query, Member::After)?,
         }),
         Resource::Script if query.is_empty() => Ok(ApiCall::Script),
+        Resource::Digest if query.is_empty() => Ok(ApiCall::Digest),
         _ => Err(Fault::Query(query)),
     }
 }
@@ -148,6 +159,9 @@ pub(crate) fn call_of_body<'a>(
         }),
         Resource::Acknowledge => Ok(ApiCall::Acknowledge {
             stamp: required_text(body, Member::Stamp)?,
+        }),
+        Resource::AcknowledgeAlarms => Ok(ApiCall::AcknowledgeAlarms {
+            site: required_count(body, Member::Site)?,
         }),
         Resource::Meet => Ok(ApiCall::Meet {
             address: required_text(body, Member::Address)?,

@@ -21,6 +21,8 @@ pub enum ApiCall<'a> {
     },
     /// The script.
     Script,
+    /// Of each site that has issued, up to which number its statements are held, and their digest.
+    Digest,
     /// The value of an expression: of a relation `count` tuples from `first` on, or all from there. With a stamp, as it
     /// was just after that statement.
     Query {
@@ -37,6 +39,10 @@ pub enum ApiCall<'a> {
     /// The statement of this stamp was done here and is refused, and a person has seen that.
     Acknowledge {
         stamp: &'a str,
+    },
+    /// The statements of this site differ at another one, and a person has seen that.
+    AcknowledgeAlarms {
+        site: u64,
     },
     /// The site calls the peer of this address soon.
     Meet {

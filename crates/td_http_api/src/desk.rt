@@ -32,6 +32,9 @@ pub trait Desk {
     fn make(&mut self, call: &ApiCall<'_>, out: &mut Writer) -> Result<DeskAnswer, AllocError>
         requires { IsBegun out.old }
         ensures { answers self.old call.now (given_answer result out.new) self.new };
+
+    /// Why the site takes no statements; none where it takes them. Everyone may read it, so it has no data of the site.
+    fn failure(&self) -> Option<&str>;
 }
 
 /// The greatest integer up to which a program that reads numbers as doubles tells all apart.

@@ -25,8 +25,10 @@
 //! A desk appends the members of an object that the service opened and will close, and returns the status. The members
 //! that the page reads:
 //!
-//! - `Site`: `site`, `held` and `limit`; `open`, false where the journal has failed; `vector`; `peers`, the addresses
-//!   that may be called; `meetings`, the latest first, each with `peer`, `called` (true where this site called), `met`,
+//! - `Site`: `site`, `held` and `limit`; `open`, false where the journal has failed; `lacking`, true where the site
+//!   issues nothing until it has met another one; `vector`; `peers`, the addresses that may be called; `alarms`, each
+//!   with `site` and `address`: statements of that site differ here and at the site that was met there, and nobody has
+//!   acknowledged that; `meetings`, the latest first, each with `peer`, `called` (true where this site called), `met`,
 //!   `words` (what it brought, or why it failed) and `seconds` (how long ago).
 //! - `Relvars`: `relvars`, each with `name`, `kind` (`base` or `virtual`), `heading` (of each attribute `name` and
 //!   `type`) and, where they are counted, `tuples`.
@@ -35,11 +37,14 @@
 //! - `Log`: `log` in the order of stamps, each as in `Refused`, or with `stamp`, `done`, `changed` (of each relvar the
 //!   first tuples that it took out and put in, in words) and `text`.
 //! - `Script`: `script`.
+//! - `Digest`: `digest`, of each site that has issued `site`, `number` and `sum`: the number of its last statement that
+//!   is held, and the SHA-256 of all up to that, as `.digest` of the shell has it.
 //! - `Query`: of a relation `heading`, `rows` (lists of values in its order) and `total`, how many tuples there are in
 //!   all; of another value `value`; or `raised`.
-//! - `Statement`: `stamp` and either `done` or `refused`, the reason. A text that is not added is a fault with 422.
-//! - `Acknowledge`: `acknowledged`. `Meet`: `calling`, with 202; an address that may not be called is a fault with 403.
-//!   `Stop`: `stopping`, with 202.
+//! - `Statement`: `stamp` and either `done` or `refused`, the reason; `warning` where statements of this very site
+//!   differ elsewhere. A text that is not added is a fault with 422.
+//! - `Acknowledge`: `acknowledged`. `AcknowledgeAlarms`: `acknowledged`, how many; 422 where the site has no alarm.
+//! - `Meet`: `calling`, with 202; an address that may not be called is a fault with 403. `Stop`: `stopping`, with 202.
 //! - A fault, with a status from 400 on: `fault`, its words, in lines where a caret is below a place.
 //!
 //! `Table` is answered by comma-separated values in place of an object, or by a fault.

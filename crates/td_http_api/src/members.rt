@@ -17,6 +17,7 @@ pub(crate) enum Member {
     Count,
     Key,
     Stamp,
+    Site,
     Address,
 }
 
@@ -75,6 +76,7 @@ impl Member {
             Member::Count => optional("count", Kind::Count),
             Member::Key => optional("key", Kind::Text),
             Member::Stamp => required("stamp", Kind::Text),
+            Member::Site => required("site", Kind::Count),
             Member::Address => required("address", Kind::Text),
         }
     }

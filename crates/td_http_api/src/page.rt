@@ -2,7 +2,7 @@
 
 /// One script and one style, told by their digests, nothing from elsewhere, and calls to this site alone.
 pub(crate) const POLICY: &str = "default-src 'none'; \
-    script-src 'sha256-LoRaYfIP5gzyuYxmA/5GtqdYQC2N/KCA7m50Syyfrok='; \
+    script-src 'sha256-kOmcuZzBsJo5PdsC02pd28oHsSNCXd+4ym/zzbU9SfU='; \
     style-src 'sha256-HTyxlaeNlyoxQ/dcNaaescyj1dNobVmquuAy4PmmmvQ='; \
     img-src data:; connect-src 'self'; base-uri 'none'; form-action 'none'; frame-ancestors 'none'; \
     require-trusted-types-for 'script'; trusted-types 'none'";
@@ -39,6 +39,11 @@ pre { font: 14px/1.4 ui-monospace, monospace; white-space: pre; overflow-x: auto
 .quiet { color: #5d6670; font-size: .85rem }
 </style>
 <header><h1>Site <span id="number">?</span></h1><span id="state" role="status">not asked yet</span></header>
+<section class="alarm" id="differing" hidden>
+<h2>Statements that differ at another site</h2>
+<p class="quiet">Two programs have written as one site, or a journal is damaged. docs/TUTORIAL.md says what to do.</p>
+<table id="alarms"></table>
+</section>
 <section class="alarm" id="reversed" hidden>
 <h2>Done here, and refused now</h2>
 <p class="quiet">A statement that came later and stands before these has changed what became of them.</p>
@@ -168,7 +173,8 @@ async function runStatement(text) {
   }
   unanswered = null;
   const words = reply.stamp + (reply.refused ? ' refused: ' + reply.refused : ' done');
-  byId('answer').replaceChildren(element('p', words, reply.refused ? 'fault' : 'done'));
+  const answer = element('p', words, reply.refused ? 'fault' : 'done');
+  byId('answer').replaceChildren(answer, element('p', reply.warning, 'fault'));
 }
 async function run() {
   const text = byId('text').value.trim();
@@ -232,7 +238,8 @@ async function saveTable(name) {
 function showSite(site) {
   byId('number').textContent = site.site;
   document.title = 'Site ' + site.site;
-  const state = site.open ? '' : ': the journal has failed';
+  const lacks = site.lacking ? ': it issues nothing until it has met another site' : '';
+  const state = site.open ? lacks : ': the journal has failed';
   byId('state').textContent = site.held + ' of at most ' + site.limit + ' statements' + state;
   const meet = it => button('meet ' + it, () => act('/api/meet', { address: it }));
   byId('peers').replaceChildren(...site.peers.map(meet));
@@ -241,8 +248,18 @@ function showSite(site) {
   byId('unmet').hidden = site.meetings.length > 0;
   if (site.meetings.length) addHead(table, ['peer', 'ago', 'what it brought']);
   for (const it of site.meetings) {
-    const words = element('td', it.words, it.met ? 'done' : 'fault');
+    const words = element('td', it.words, it.met && !it.words.includes('WARNING') ? 'done' : 'fault');
     addRow(table, [(it.called ? 'to ' : 'from ') + it.peer, it.seconds + ' s', words]);
+  }
+}
+function showAlarms(alarms) {
+  const table = byId('alarms');
+  table.textContent = '';
+  byId('differing').hidden = alarms.length === 0;
+  addHead(table, ['statements of site', 'differ at', '']);
+  for (const it of alarms) {
+    const seen = () => act('/api/alarms/acknowledge', { site: it.site });
+    addRow(table, [it.site, it.address, button('seen', seen)]);
   }
 }
 function showRelvars(relvars) {
@@ -301,6 +318,7 @@ async function refresh() {
     const site = await call('/api/site');
     if (site.fault) throw new Error(site.fault);
     showSite(site);
+    showAlarms(site.alarms);
     const relvars = await call('/api/relvars' + (byId('counts').checked ? '?counts' : ''));
     if (relvars.fault) throw new Error(relvars.fault);
     showRelvars(relvars.relvars);

@@ -1,6 +1,6 @@
 //! The table of calls: where each one is, what it takes, and who may make it.
 
-ghost use Rattle.std.specs.Prelude.{◌≡◌, ◌++◌, ℕ, List, [], IfSome, IsTrue};
+ghost use Rattle.std.specs.Prelude.{◌≡◌, ◌⊎◌, ◌++◌, ℕ, List, [], IfSome, IsTrue};
 ghost use Rattle.http_header.specs.FieldValue.{is_visible_text};
 ghost use Rattle.td_http_api.specs.Resources.{Allows, path_text, row_of};
 
@@ -9,35 +9,41 @@ use http_header::HeaderValue;
 use std::fmt;
 use std::fmt::{Display, Formatter, Write};
 
-/// What is at a path: the page, or a call.
+/// What is at a path: the page, whether the site takes statements, or a call.
 #[derive(Clone, Copy)]
 pub(crate) enum Resource {
     Page,
+    Health,
     Site,
     Relvars,
     Table,
     Refused,
     Log,
     Script,
+    Digest,
     Query,
     Statement,
     Acknowledge,
+    AcknowledgeAlarms,
     Meet,
     Stop,
 }
 
 /// All of them, in the order in which a path is compared with theirs.
-const RESOURCES: [Resource; 12] = [
+const RESOURCES: [Resource; 15] = [
     Resource::Page,
+    Resource::Health,
     Resource::Site,
     Resource::Relvars,
     Resource::Table,
     Resource::Refused,
     Resource::Log,
     Resource::Script,
+    Resource::Digest,
     Resource::Query,
     Resource::Statement,
     Resource::Acknowledge,
+    Resource::AcknowledgeAlarms,
     Resource::Meet,
     Resource::Stop,
 ];
@@ -136,22 +142,34 @@ fn call_by(methods: Methods, path: &'static str, members: &'static [Member]) -> 
     }
 }
 
+// What everyone may look at.
+fn shown_at(path: &'static str) -> Description
+    ensures methods { result.methods ≡ Methods.GetAndHead }
+    ensures path { (name : List ℕ) → path_text result.path name ≡ path.now }
+    ensures right { result.right ≡ Right.Everyone }
+    ensures members { result.members.now ≡ [] }
+{
+    Description {
+        path: Path::Whole(path),
+        methods: Methods::GetAndHead,
+        right: Right::Everyone,
+        members: &[],
+    }
+}
+
 impl Resource {
     /// The table of calls.
     pub(crate) fn description(self) -> Description
         ensures methods { result.methods ≡ (row_of self).methods }
         ensures path { (name : List ℕ) → path_text result.path name ≡ (row_of self).path name }
         ensures right { result.right ≡ (row_of self).right }
-        ensures page { result.right ≡ Right.Everyone → self ≡ Resource.Page }
+        ensures everyone { result.right ≡ Right.Everyone
+            → (self ≡ Resource.Page) ⊎ (self ≡ Resource.Health) }
         ensures members { result.members.now ≡ (row_of self).members }
     {
         match self {
-            Resource::Page => Description {
-                path: Path::Whole("/"),
-                methods: Methods::GetAndHead,
-                right: Right::Everyone,
-                members: &[],
-            },
+            Resource::Page => shown_at("/"),
+            Resource::Health => shown_at("/api/health"),
             Resource::Site => call_by(Methods::Get, "/api/site", &[]),
             Resource::Relvars => call_by(Methods::Get, "/api/relvars", &[Member::Counts]),
             Resource::Table => Description {
@@ -163,6 +181,7 @@ impl Resource {
             Resource::Refused => call_by(Methods::Get, "/api/refused", &[]),
             Resource::Log => call_by(Methods::Get, "/api/log", &[Member::After]),
             Resource::Script => call_by(Methods::Get, "/api/script", &[]),
+            Resource::Digest => call_by(Methods::Get, "/api/digest", &[]),
             Resource::Query => call_by(
                 Methods::Post,
                 "/api/query",
@@ -174,6 +193,9 @@ impl Resource {
                 &[Member::Text, Member::Key],
             ),
             Resource::Acknowledge => call_by(Methods::Post, "/api/acknowledge", &[Member::Stamp]),
+            Resource::AcknowledgeAlarms => {
+                call_by(Methods::Post, "/api/alarms/acknowledge", &[Member::Site])
+            }
             Resource::Meet => call_by(Methods::Post, "/api/meet", &[Member::Address]),
             Resource::Stop => call_by(Methods::Post, "/api/stop", &[]),
         }

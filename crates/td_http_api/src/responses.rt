@@ -1,9 +1,9 @@
 //! What is sent.
 
-ghost use Rattle.std.specs.Prelude.{◌≡◌, ◌++◌, ◌≤◌, OnOk, string_bytes};
+ghost use Rattle.std.specs.Prelude.{◌≡◌, ◌++◌, ◌≤◌, OnOk, option_copied, string_bytes};
 ghost use Rattle.http_server.specs.Response.{IsBlank};
 ghost use Rattle.json.specs.Print.{print};
-ghost use Rattle.td_http_api.specs.Answers.{IsAnswer, fault_text};
+ghost use Rattle.td_http_api.specs.Answers.{IsAnswer, fault_text, health_answer};
 
 use crate::fault::Fault;
 use crate::page::{PAGE, POLICY};
@@ -114,6 +114,31 @@ pub(crate) fn put_words(
     out.begin_object()?;
     out.key("fault")?;
     out.string(words)?;
+    out.end_object()?;
+    put_json(response, status, out)
+}
+
+/// Puts whether a site takes statements into a response, and why not.
+pub(crate) fn put_health(
+    alloc: Global,
+    response: &mut Response,
+    failure: Option<&str>,
+) -> Result<(), AllocError>
+    requires { IsBlank response.old }
+    ensures { OnOk result (IsAnswer (health_answer (option_copied failure.entry)) response.new) }
+{
+    let mut out = Writer::new(Vec::new(alloc));
+    out.begin_object()?;
+    out.key("open")?;
+    out.boolean(failure.is_none())?;
+    let status = match failure {
+        None => StatusCode::OK,
+        Some(why) => {
+            out.key("fault")?;
+            out.string(why)?;
+            StatusCode::SERVICE_UNAVAILABLE
+        }
+    };
     out.end_object()?;
     put_json(response, status, out)
 }

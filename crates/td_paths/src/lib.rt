@@ -10,8 +10,8 @@
 //! replace_file(&rt, name, beside, text)?;
 //! ```
 //!
-//! Costs: a look at the name; `read_plain` then reads the whole file into memory. `replace_file` syncs a file and its
-//! folder.
+//! Costs: a look at the name; `read_plain` then reads the whole file into memory. `replace_file` and `remove_file` sync
+//! what they change.
 #![tactic(auto)]
 
 mod reading;
@@ -20,4 +20,4 @@ mod writing;
 
 pub use reading::{plain_file, read_plain};
 pub use unreadable::Unreadable;
-pub use writing::{replace_file, sync_folder};
+pub use writing::{remove_file, replace_file, sync_folder};

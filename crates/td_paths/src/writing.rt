@@ -1,4 +1,4 @@
-//! Files that are replaced.
+//! Files that are replaced and removed.
 
 use std::fs::{OpenFile, OpenOptions};
 use std::io::{ErrorKind, Write};
@@ -36,6 +36,12 @@ fn write_synced<H: Files>(host: &H, name: &str, text: &str) -> io::Result<()> {
         .open(host, name)?;
     file.write_all(text.as_bytes())?;
     file.sync_all()
+}
+
+/// Removes a file, and syncs its folder.
+pub fn remove_file<H: Files>(host: &H, name: &str) -> io::Result<()> {
+    fs::remove_file(host, name)?;
+    sync_folder(host, name)
 }
 
 /// Replaces a file: the text is written to the file `beside` and synced, which then takes the name, and the folder of

@@ -2,6 +2,8 @@
 //! and calls them by itself.
 #![tactic(auto)]
 
+mod host;
+mod reopening;
 mod serving;
 mod start;
 mod token;

@@ -1,5 +1,6 @@
 //! A site that is served.
 
+use crate::host::{Host, KeptSite, report_memory};
 use crate::words::ServerOptions;
 use std::alloc::{AllocError, Global};
 use std::net::SocketAddr;
@@ -7,9 +8,9 @@ use std::os::fd::AsRawFd;
 use td_changes::Changes;
 use td_event_loop::{EventLoop, LoopOptions};
 use td_http_api::{Api, Guard};
-use td_replica::Catalogued;
+use td_replica::{Catalogued, Opens};
 use td_site_desk::{SiteDesk, SiteServer};
-use td_site_opening::{ExitStatus, OUT_OF_MEMORY};
+use td_site_opening::ExitStatus;
 
 // Adds the hosts by which this program is asked.
 fn add_hosts(
@@ -69,59 +70,134 @@ fn listen(rt: &HostRuntime, options: &ServerOptions<'_>) -> Option<EventLoop> {
     }
 }
 
-// Answers requests and meets other sites until the program is to end.
-fn run<R: Changes + Catalogued + Drop>(
+// Answers requests and meets other sites until the desk leaves, which is returned with the guard, or until the program
+// is to end: then its exit status is returned.
+fn run<'a, R: Changes + Catalogued + Drop>(
     rt: &HostRuntime,
     event_loop: &mut EventLoop,
-    desk: SiteDesk<'_, R, HostRuntime>,
+    desk: SiteDesk<'a, R, HostRuntime>,
     guard: Guard,
-) -> ExitStatus {
+) -> Result<(SiteDesk<'a, R, HostRuntime>, Guard), ExitStatus> {
     let mut server = SiteServer::new(Api::new(rt.alloc(), desk, guard));
     match event_loop.run(rt, &mut server) {
-        Ok(()) => ExitStatus::Success,
+        Ok(()) => {
+            let (desk, guard) = server.into_api().into_parts();
+            if desk.is_stopping() {
+                return Err(ExitStatus::Success);
+            }
+            Ok((desk, guard))
+        }
         Err(error) => {
             let _ = eprintln!(rt; "fault net: {error}");
-            ExitStatus::Fault
+            Err(ExitStatus::Fault)
         }
     }
+}
+
+// A desk whose site is let go, with the file of its journal.
+fn without_site<'a, R: Drop>(desk: SiteDesk<'a, R, HostRuntime>) -> SiteDesk<'a, (), HostRuntime> {
+    let (_site, desk) = desk.with_site(());
+    desk
+}
+
+// A desk that answers queries from what is complete of the journal.
+fn suspended<'a, R: Opens + Drop>(
+    host: Host<'a>,
+    desk: SiteDesk<'a, (), HostRuntime>,
+) -> Result<SiteDesk<'a, R, HostRuntime>, ExitStatus> {
+    let why = host.failure_text()?;
+    let _ = println!(host.rt; "fault {why}");
+    let site = host.open_read::<R>()?;
+    let (_, mut desk) = desk.with_site(site);
+    let until = desk.now().saturating_add(host.try_time());
+    desk.suspend(why, until);
+    Ok(desk)
+}
+
+// A desk over a site that came back from its journal again.
+fn resumed<'a, R: Opens + Changes + Catalogued + Drop>(
+    host: Host<'a>,
+    desk: SiteDesk<'a, R, HostRuntime>,
+    site: KeptSite<'a, R>,
+) -> Result<SiteDesk<'a, KeptSite<'a, R>, HostRuntime>, ExitStatus> {
+    let Ok(is_lacking) = host.report_journal(&site) else {
+        return Err(report_memory(host.rt));
+    };
+    let (_, mut desk) = desk.with_site(site);
+    desk.resume(is_lacking);
+    let _ = println!(host.rt; "the journal is written again");
+    Ok(desk)
+}
+
+// Answers queries until the journal that failed can be written again, or has failed for too long.
+fn await_journal<'a, R: Opens + Changes + Catalogued + Drop>(
+    host: Host<'a>,
+    event_loop: &mut EventLoop,
+    desk: SiteDesk<'a, KeptSite<'a, R>, HostRuntime>,
+    guard: Guard,
+) -> Result<(SiteDesk<'a, KeptSite<'a, R>, HostRuntime>, Guard), ExitStatus> {
+    let since = desk.now();
+    let mut parts = (suspended::<R>(host, without_site(desk))?, guard);
+    for _ in 0..u64::MAX {
+        let (mut desk, guard) = run(host.rt, event_loop, parts.0, parts.1)?;
+        if let Some(site) = host.reopen::<R>() {
+            return Ok((resumed(host, desk, site)?, guard));
+        }
+        let now = desk.now();
+        if now.saturating_sub(since) >= host.give_up_time() {
+            return Err(host.give_up());
+        }
+        desk.try_again(now.saturating_add(host.try_time()));
+        parts = (desk, guard);
+    }
+    Err(host.give_up())
+}
+
+// Serves a site that is kept in its journal, and goes on without one while that fails.
+fn run_kept<'a, R: Opens + Changes + Catalogued + Drop>(
+    host: Host<'a>,
+    event_loop: &mut EventLoop,
+    desk: SiteDesk<'a, KeptSite<'a, R>, HostRuntime>,
+    guard: Guard,
+) -> Result<(), ExitStatus> {
+    let mut parts = (desk, guard);
+    for _ in 0..u64::MAX {
+        let (desk, guard) = run(host.rt, event_loop, parts.0, parts.1)?;
+        parts = await_journal(host, event_loop, desk, guard)?;
+    }
+    Ok(())
 }
 
 // Serves the site by an event loop that listens.
-fn serve_by<R: Changes + Catalogued + Drop>(
-    rt: &HostRuntime,
-    options: &ServerOptions<'_>,
+fn serve_by<'a, R: Opens + Changes + Catalogued + Drop>(
+    host: Host<'a>,
     event_loop: &mut EventLoop,
     token: &str,
-    desk: SiteDesk<'_, R, HostRuntime>,
+    desk: SiteDesk<'a, KeptSite<'a, R>, HostRuntime>,
 ) -> ExitStatus {
+    let Host { rt, options, .. } = host;
     let client = event_loop.client_address().unwrap_or(options.clients);
-    match guard_of(rt.alloc(), client, token) {
-        Ok(guard) => {
-            print_addresses(rt, event_loop, client, token);
-            if options.has_console {
-                watch_console(rt, event_loop);
-            }
-            run(rt, event_loop, desk, guard)
-        }
-        Err(_) => report_memory(rt),
+    let Ok(guard) = guard_of(rt.alloc(), client, token) else {
+        return report_memory(rt);
+    };
+    print_addresses(rt, event_loop, client, token);
+    if options.has_console {
+        watch_console(rt, event_loop);
+    }
+    match run_kept(host, event_loop, desk, guard) {
+        Ok(()) => ExitStatus::Success,
+        Err(status) => status,
     }
 }
 
-/// Reports that memory ran out, and returns the exit status for that.
-pub(crate) fn report_memory(rt: &HostRuntime) -> ExitStatus {
-    let _ = eprint!(rt; "{}", OUT_OF_MEMORY);
-    ExitStatus::Fault
-}
-
 /// Serves the site until the program is to end.
-pub(crate) fn serve<R: Changes + Catalogued + Drop>(
-    rt: &HostRuntime,
-    options: &ServerOptions<'_>,
+pub(crate) fn serve<'a, R: Opens + Changes + Catalogued + Drop>(
+    host: Host<'a>,
     token: &str,
-    desk: SiteDesk<'_, R, HostRuntime>,
+    desk: SiteDesk<'a, KeptSite<'a, R>, HostRuntime>,
 ) -> ExitStatus {
-    match listen(rt, options) {
-        Some(mut event_loop) => serve_by(rt, options, &mut event_loop, token, desk),
+    match listen(host.rt, host.options) {
+        Some(mut event_loop) => serve_by(host, &mut event_loop, token, desk),
         None => ExitStatus::Fault,
     }
 }

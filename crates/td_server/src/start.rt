@@ -2,34 +2,23 @@
 
 ghost use Rattle.td_journal.specs.Reopening.{IsNew};
 
-use crate::serving::{report_memory, serve};
-use crate::token::open_token;
+use crate::host::{Host, KeptSite, report_memory};
+use crate::serving::serve;
 use crate::words::ServerOptions;
 use std::alloc::AllocError;
+use td_alarms::Alarms;
 use td_changes::Changes;
 use td_io::Device;
 use td_journal::{StoreError, keep_journal};
 use td_journal_files::{FileJournals, Notes};
-use td_paths::Unreadable;
 use td_replay::Site;
-use td_replica::{Catalogued, Opens, Replica};
+use td_replica::{Catalogued, Opens};
 use td_semantics::Meter;
 use td_site_desk::{DeskParts, Peers, Reversals, SiteDesk};
-use td_site_messages::push_journal;
 use td_site_opening::{
-    ExitStatus, ScriptFile, SiteJournal, StartFault, complain, find_mark, is_lacking, journal_name,
-    open_new, prepare_journal, read_script, report, report_unkept,
+    ExitStatus, ScriptFile, SiteJournal, StartFault, journal_name, open_new, prepare_journal,
+    read_script, report, report_unkept,
 };
-
-/// What the server of a site goes by.
-#[derive(Clone, Copy)]
-struct Host<'a> {
-    rt: &'a HostRuntime,
-    options: &'a ServerOptions<'a>,
-    notes: &'a Notes,
-    /// The name of the journal.
-    journal: &'a str,
-}
 
 // Reports why there is no site, and returns the exit status.
 fn report_fault(rt: &HostRuntime, fault: StartFault<'_>) -> ExitStatus {
@@ -37,64 +26,13 @@ fn report_fault(rt: &HostRuntime, fault: StartFault<'_>) -> ExitStatus {
 }
 
 impl<'a> Host<'a> {
-    // Reports what was found of the journal; returns whether the site issues nothing until it has met another one.
-    fn report_journal<R: Replica>(self, site: &R) -> Result<bool, AllocError> {
-        let mut found = String::new(self.rt.alloc());
-        push_journal(&mut found, Some(self.journal), self.notes.found(), site)?;
-        let mut faults = Device::new(self.rt.stderr());
-        complain(&mut faults, found.as_str());
-        let mark = find_mark(self.rt.alloc(), self.rt, Some(self.journal))?;
-        let mark = match &mark {
-            Some(mark) => Some(mark.as_str()),
-            None => None,
-        };
-        Ok(is_lacking(self.rt, &self.options.site, self.notes, mark, &mut faults))
-    }
-
-    // The token, or the exit status after a report why there is none.
-    fn open_token(self) -> Result<String, ExitStatus> {
-        let alloc = self.rt.alloc();
-        let journal = self.journal;
-        let Ok(beside) = format!(in alloc; "{journal}.token") else {
-            return Err(report_memory(self.rt));
-        };
-        let name = self.options.token_file.unwrap_or(beside.as_str());
-        match open_token(alloc, self.rt, name) {
-            Ok(token) => Ok(token),
-            Err(error) => {
-                let why = error.words();
-                let _ = eprintln!(self.rt; "fault token {name}: {why}");
-                Err(ExitStatus::BadWords)
-            }
-        }
-    }
-
-    // The statements that were done and are refused now, or the exit status after a report why their list is not read.
-    fn open_reversals(self) -> Result<Reversals, ExitStatus> {
-        let alloc = self.rt.alloc();
-        let journal = self.journal;
-        let Ok(name) = format!(in alloc; "{journal}.reversed") else {
-            return Err(report_memory(self.rt));
-        };
-        match Reversals::open(alloc, self.rt, Some(name)) {
-            Ok(reversals) => Ok(reversals),
-            Err(Unreadable::OutOfMemory) => Err(report_memory(self.rt)),
-            Err(error) => {
-                let why = error.words();
-                let _ = eprintln!(self.rt;
-                    "fault file {journal}.reversed: {why}; move it away to begin a new list"
-                );
-                Err(ExitStatus::BadJournal)
-            }
-        }
-    }
-
     // The desk of a site that came back.
     fn desk_of<R: Changes + Catalogued + Drop>(
         self,
         site: R,
         meter: Meter,
         reversals: Reversals,
+        alarms: Alarms,
     ) -> Result<SiteDesk<'a, R, HostRuntime>, AllocError> {
         let alloc = self.rt.alloc();
         let is_lacking = self.report_journal(&site)?;
@@ -108,30 +46,40 @@ impl<'a> Host<'a> {
             meter,
             peers,
             reversals,
+            alarms,
             is_lacking,
+            mark: self.find_mark()?,
         };
         SiteDesk::new(alloc, parts)
     }
 
     // Serves a site that came back from its journal, to clients that show the token.
-    fn serve_by_token<R: Changes + Catalogued + Drop>(
+    fn serve_by_token<R: Opens + Changes + Catalogued + Drop>(
         self,
         token: &str,
-        site: R,
+        site: KeptSite<'a, R>,
         meter: Meter,
     ) -> ExitStatus {
         let reversals = match self.open_reversals() {
             Ok(reversals) => reversals,
             Err(status) => return status,
         };
-        match self.desk_of(site, meter, reversals) {
-            Ok(desk) => serve(self.rt, self.options, token, desk),
+        let alarms = match self.open_alarms() {
+            Ok(alarms) => alarms,
+            Err(status) => return status,
+        };
+        match self.desk_of(site, meter, reversals, alarms) {
+            Ok(desk) => serve(self, token, desk),
             Err(_) => report_memory(self.rt),
         }
     }
 
     // Serves a site that came back from its journal.
-    fn serve_kept<R: Changes + Catalogued + Drop>(self, site: R, meter: Meter) -> ExitStatus {
+    fn serve_kept<R: Opens + Changes + Catalogued + Drop>(
+        self,
+        site: KeptSite<'a, R>,
+        meter: Meter,
+    ) -> ExitStatus {
         match self.open_token() {
             Ok(token) => self.serve_by_token(token.as_str(), site, meter),
             Err(status) => status,
@@ -139,10 +87,10 @@ impl<'a> Host<'a> {
     }
 
     // Reports why the site does not come back from its journal.
-    fn report_unkept<R: Opens + Drop>(self, script: &str, meter: &mut Meter) -> ExitStatus {
+    fn report_unkept<R: Opens + Drop>(self, meter: &mut Meter) -> ExitStatus {
         let journal = SiteJournal {
             options: self.options.site,
-            script,
+            script: self.script,
             name: self.journal,
         };
         let mut faults = Device::new(self.rt.stderr());
@@ -156,8 +104,8 @@ impl<'a> Host<'a> {
         )
     }
 
-    // Has a new site of this script come back from its journal, and serves it.
-    fn keep<R: Opens + Changes + Catalogued + Drop>(self, script: &str, site: R) -> ExitStatus
+    // Has a new site of the script come back from its journal, and serves it.
+    fn keep<R: Opens + Changes + Catalogued + Drop>(self, site: R) -> ExitStatus
         requires { IsNew (R.seen site) }
     {
         let mut meter = Meter::new(self.rt);
@@ -165,7 +113,7 @@ impl<'a> Host<'a> {
         match keep_journal(self.rt.alloc(), &journals, self.journal, site, &mut meter) {
             Ok(site) => self.serve_kept(site, meter),
             Err(StoreError::OutOfMemory) => report_memory(self.rt),
-            Err(StoreError::JournalFile) => self.report_unkept::<R>(script, &mut meter),
+            Err(StoreError::JournalFile) => self.report_unkept::<R>(&mut meter),
         }
     }
 }
@@ -187,10 +135,11 @@ fn start_named<R: Opens + Changes + Catalogued + Drop>(
     let host = Host {
         rt,
         options,
+        script,
         notes: &notes,
         journal: name,
     };
-    host.keep(script, site)
+    host.keep(site)
 }
 
 // Has a new site of this script come back from its journal, and serves it.

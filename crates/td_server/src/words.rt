@@ -26,6 +26,8 @@ pub(crate) struct ServerOptions<'a> {
     pub allowed: Vec<IpAddr>,
     /// Seconds between two calls of a peer.
     pub every: u64,
+    /// For how many seconds a journal that failed is tried again.
+    pub give_up: u64,
     /// The name of the file that has the token, if it is none beside the journal.
     pub token_file: Option<&'a str>,
     /// Whether lines of standard input are read.
@@ -78,6 +80,13 @@ fn console_flag<'a>(alloc: Global) -> Arg<'a> {
     flag(alloc, "console", help)
 }
 
+fn give_up_option<'a>(alloc: Global) -> Arg<'a> {
+    let help = "How long a journal that failed is tried again, 1 to 86400";
+    option(alloc, "give-up", "SECONDS", help)
+        .value_parser(ValueParser::unsigned(1, 86_400))
+        .default_value("600")
+}
+
 fn peers_option<'a>(alloc: Global) -> Arg<'a> {
     option(
         alloc,
@@ -114,7 +123,8 @@ fn with_clients<'a>(alloc: Global, command: Command<'a>) -> Result<Command<'a>, 
     command
         .arg(clients_option(alloc))?
         .arg(token_option(alloc))?
-        .arg(console_flag(alloc))
+        .arg(console_flag(alloc))?
+        .arg(give_up_option(alloc))
 }
 
 // Adds whom it meets.
@@ -202,6 +212,7 @@ fn options_in<'a>(
         calls,
         allowed,
         every: matches.get_one::<u64>("every").unwrap_or(60),
+        give_up: matches.get_one::<u64>("give-up").unwrap_or(600),
         token_file: matches.get_str("token-file"),
         has_console: matches.get_flag("console"),
     })

@@ -9,11 +9,13 @@ use crate::keys::Keys;
 use crate::meetings::Meetings;
 use crate::reversals::Reversals;
 use crate::scopes::Scopes;
+use crate::suspension::Suspension;
 use crate::values::Range;
 use crate::words::{fault, write_raised, write_text, write_truth};
 use std::alloc::{AllocError, Global};
 use std::net::SocketAddr;
 use std::rt::Runtime;
+use td_alarms::Alarms;
 use td_changes::Changes;
 use td_http_api::{ApiCall, Desk, DeskAnswer, StatusCode, Writer};
 use td_io::Device;
@@ -21,7 +23,7 @@ use td_journal_files::Notes;
 use td_listings::{ExportError, export};
 use td_replica::Catalogued;
 use td_semantics::Meter;
-use td_site_messages::{BROKEN, NO_MEMORY};
+use td_site_messages::{BROKEN, LACKING, NO_MEMORY};
 
 /// The peers that the program was started with.
 #[derive(Drop)]
@@ -39,8 +41,11 @@ pub struct DeskParts<'a, R: Drop, H> {
     pub meter: Meter,
     pub peers: Peers,
     pub reversals: Reversals,
+    pub alarms: Alarms,
     /// Its journal lacks statements that it had once, so it issues none until it has met another site.
     pub is_lacking: bool,
+    /// The name of a file that is there until a rebuilt site has met another one, if it is there.
+    pub mark: Option<String>,
 }
 
 /// A site, with what is kept of its statements and its meetings.
@@ -57,9 +62,12 @@ pub struct SiteDesk<'a, R: Drop, H> {
     pub(crate) scopes: Scopes,
     pub(crate) keys: Keys,
     pub(crate) reversals: Reversals,
+    pub(crate) alarms: Alarms,
     pub(crate) console: PartialLine,
     /// Its journal lacks statements that it had once, so it issues none until it has met another site.
     pub(crate) is_lacking: bool,
+    pub(crate) mark: Option<String>,
+    pub(crate) suspension: Option<Suspension>,
     pub(crate) is_stopping: bool,
     pub(crate) now: u64,
 }
@@ -85,7 +93,9 @@ impl<'a, R: Changes + Catalogued + Drop, H: Runtime + AllocGlobal> SiteDesk<'a, 
             meter,
             peers,
             mut reversals,
+            alarms,
             is_lacking,
+            mark,
         } = parts;
         let _ = reversals.update(&site)?;
         let scopes = Scopes::new(alloc, &peers.addresses)?;
@@ -101,14 +111,18 @@ impl<'a, R: Changes + Catalogued + Drop, H: Runtime + AllocGlobal> SiteDesk<'a, 
             scopes,
             keys: Keys::new(alloc),
             reversals,
+            alarms,
             console: PartialLine::new(),
             is_lacking,
+            mark,
+            suspension: None,
             is_stopping: false,
             now: 0,
         })
     }
 
-    pub(crate) fn is_stopping(&self) -> bool {
+    /// Whether the program is to end.
+    pub fn is_stopping(&self) -> bool {
         self.is_stopping
     }
 
@@ -132,9 +146,14 @@ impl<'a, R: Changes + Catalogued + Drop, H: Runtime + AllocGlobal> SiteDesk<'a, 
         }
     }
 
-    // Appends what the site is and holds, whether it lacks statements, its peers, and its last meetings.
+    // Appends what the site is and holds, whether it lacks statements, its peers, its alarms, and its last meetings.
     fn tell_site(&self, out: &mut Writer) -> Result<StatusCode, AllocError> {
         self.view().tell_site(out)?;
+        write_truth(
+            out,
+            "open",
+            self.suspension.is_none() && self.site.is_open(),
+        )?;
         write_truth(out, "lacking", self.is_lacking)?;
         out.key("peers")?;
         out.begin_array()?;
@@ -143,6 +162,7 @@ impl<'a, R: Changes + Catalogued + Drop, H: Runtime + AllocGlobal> SiteDesk<'a, 
             out.string(text.as_str())?;
         }
         out.end_array()?;
+        self.write_alarms(out)?;
         self.meetings.write(out, self.now)?;
         Ok(StatusCode::OK)
     }
@@ -262,6 +282,7 @@ impl<R: Changes + Catalogued + Drop, H: Runtime + AllocGlobal> Desk for SiteDesk
             ApiCall::Refused => members(self.view().tell_refused(out)),
             ApiCall::Log { after } => members(self.view().tell_log(after, out)),
             ApiCall::Script => members(self.tell_script(out)),
+            ApiCall::Digest => members(self.view().tell_digest(out)),
             ApiCall::Query {
                 text,
                 at,
@@ -273,8 +294,21 @@ impl<R: Changes + Catalogued + Drop, H: Runtime + AllocGlobal> Desk for SiteDesk
                 Err(error) => Err(error),
             },
             ApiCall::Acknowledge { stamp } => members(self.acknowledge_stamp(stamp, out)),
+            ApiCall::AcknowledgeAlarms { site } => members(self.acknowledge_alarms(site, out)),
             ApiCall::Meet { address } => members(self.wish_for(address, out)),
             ApiCall::Stop => members(self.stop_soon(out)),
+        }
+    }
+
+    fn failure(&self) -> Option<&str> {
+        if let Some(why) = self.suspended() {
+            Some(why)
+        } else if !self.site.is_open() {
+            Some(BROKEN)
+        } else if self.is_lacking {
+            Some(LACKING)
+        } else {
+            None
         }
     }
 }

@@ -1,13 +1,13 @@
 //! Meetings of the site.
 
 use crate::desk::SiteDesk;
-use crate::meetings::Note;
-use crate::scopes::MeetingState;
+use crate::received::TakingStep;
+use crate::scopes::{GreetedPeer, MeetingState, lacked_by};
 use crate::steps::{
     answer_bytes, answer_question_into, ask_into, compare_into, finish_bytes, greet_into,
-    settle_bytes,
+    greeted_vector, settle_bytes,
 };
-use std::alloc::{AllocError, Global};
+use std::alloc::AllocError;
 use std::io::Write;
 use std::net::SocketAddr;
 use std::rt::Runtime;
@@ -15,44 +15,10 @@ use td_changes::Changes;
 use td_checked_meetings::{MeetingScope, Received, add_differences, whole_scope};
 use td_comparison::{FirstMessage, is_other_version};
 use td_event_loop::{MeetingOutcome, MeetingReport, Outbox, PeerRefusal, StepResult};
-use td_frames::FrameError;
-use td_headings::Catalogue;
-use td_journal_files::Notes;
 use td_meeting::MeetingError;
 use td_replica::Catalogued;
-use td_site_messages::{
-    MeetingChanges, SiteFault, Snapshot, push_differing, push_met, push_not_taken, push_site_fault,
-};
+use td_stamps::Vector;
 use td_stream_bounds::{Extent, greeting_extent};
-
-// What a step of a meeting came to that failed.
-fn outcome_of(error: MeetingError) -> MeetingOutcome {
-    match error {
-        MeetingError::WriteFault { .. } => MeetingOutcome::Partial,
-        MeetingError::Frame {
-            error: FrameError::Cut,
-            taken,
-        } if taken > 0 => MeetingOutcome::Partial,
-        _ => MeetingOutcome::Failed,
-    }
-}
-
-// How many statements a step took that failed.
-fn taken_of(error: MeetingError) -> usize {
-    match error {
-        MeetingError::Frame { error: _, taken } => taken,
-        MeetingError::WriteFault { taken } => taken,
-        _ => 0,
-    }
-}
-
-// How many new statements a step took.
-fn fresh_of(received: Result<Received, MeetingError>) -> usize {
-    match received {
-        Ok(received) => received.taken.fresh,
-        Err(error) => taken_of(error),
-    }
-}
 
 // The stream of entries after the greeting of a reply; nothing if the greeting is not whole.
 fn entries_of(reply: &[u8]) -> &[u8] {
@@ -62,77 +28,12 @@ fn entries_of(reply: &[u8]) -> &[u8] {
     }
 }
 
-// Appends why a step did not do what it is for, or how much it did.
-fn push_error(
-    out: &mut String,
-    catalogue: &Catalogue,
-    notes: &Notes,
-    error: MeetingError,
-) -> Result<(), AllocError> {
-    if outcome_of(error) == MeetingOutcome::Partial {
-        let taken = taken_of(error);
-        return write!(
-            out,
-            "met in part: {taken} statements were new here, and the next meeting goes on"
-        );
-    }
-    out.push_str("fault ")?;
-    push_site_fault(out, catalogue, notes, SiteFault::NotMet(error))
-}
-
-// Appends what a meeting changed, in one line.
-fn push_meeting_changes(out: &mut String, changes: &MeetingChanges) -> Result<(), AllocError> {
-    out.push_str(changes.line_end.as_str())?;
-    push_lines(out, changes.lines.as_str())
-}
-
-// Appends lines to a line.
-fn push_lines(out: &mut String, lines: &str) -> Result<(), AllocError> {
-    for line in lines.lines() {
-        out.push_str("; ")?;
-        out.push_str(line)?;
-    }
-    Ok(())
+// Whether a greeting is refused: of another script, or of this site's number.
+fn is_refused(error: MeetingError) -> bool {
+    matches!(error, MeetingError::OtherScript | MeetingError::SameSite)
 }
 
 impl<R: Changes + Catalogued + Drop, H: Runtime + AllocGlobal> SiteDesk<'_, R, H> {
-    // Keeps what a step came to until its meeting ends; a step whose words had no memory leaves no note.
-    fn note(&mut self, meeting: usize, outcome: MeetingOutcome, words: Result<String, AllocError>) {
-        if let Ok(words) = words {
-            self.meetings.note(meeting, Note { outcome, words });
-        }
-    }
-
-    // Why a step did not do what it is for, or how much it did.
-    fn error_words(&self, error: MeetingError) -> Result<String, AllocError> {
-        let mut words = String::new(self.alloc);
-        push_error(&mut words, self.site.catalogue(), self.notes, error)?;
-        Ok(words)
-    }
-
-    // Keeps why a step failed, or how much it did, until its meeting ends.
-    fn note_error(&mut self, meeting: usize, error: MeetingError) {
-        let words = self.error_words(error);
-        self.note(meeting, outcome_of(error), words);
-    }
-
-    // Looks at what became of the statements of this site, if others came.
-    fn review(&mut self, fresh: usize) {
-        if fresh == 0 {
-            return;
-        }
-        let Ok(more) = self.reversals.update(&self.site) else {
-            self.tell_line(
-                "fault memory: whether statements of this site are refused now is not known\n",
-            );
-            return;
-        };
-        if more > 0 {
-            self.tell_line("statements that were done here are refused now: GET /api/refused\n");
-            self.save_reversals();
-        }
-    }
-
     /// Writes the list of reversed statements to its file, and tells whoever watches if that fails.
     pub(crate) fn save_reversals(&self) {
         if !matches!(self.reversals.save(self.host), Ok(true)) {
@@ -147,12 +48,6 @@ impl<R: Changes + Catalogued + Drop, H: Runtime + AllocGlobal> SiteDesk<'_, R, H
             MeetingError::WriteFault { .. } => StepResult::Part,
             _ => StepResult::Stop,
         }
-    }
-
-    // Notes what a step came to, in these words.
-    fn note_words(&mut self, meeting: usize, outcome: MeetingOutcome, words: &str) {
-        let words = String::from_str(self.alloc, words);
-        self.note(meeting, outcome, words);
     }
 
     // Writes the greeting of the site for a peer that does not compare.
@@ -188,6 +83,9 @@ impl<R: Changes + Catalogued + Drop, H: Runtime + AllocGlobal> SiteDesk<'_, R, H
         peer: SocketAddr,
         out: &mut Outbox,
     ) -> Option<FirstMessage> {
+        if self.refuses_meeting(meeting) {
+            return None;
+        }
         if self.scopes.is_plain(peer, self.now) {
             return self.open_plain(meeting, out);
         }
@@ -218,6 +116,9 @@ impl<R: Changes + Catalogued + Drop, H: Runtime + AllocGlobal> SiteDesk<'_, R, H
         question: &[u8],
         out: &mut Outbox,
     ) -> StepResult {
+        if self.refuses_meeting(meeting) {
+            return StepResult::Stop;
+        }
         if is_other_version(question) {
             return self.refuse_version(meeting, out);
         }
@@ -251,6 +152,9 @@ impl<R: Changes + Catalogued + Drop, H: Runtime + AllocGlobal> SiteDesk<'_, R, H
         answer: &[u8],
         out: &mut Outbox,
     ) -> StepResult {
+        if self.refuses_meeting(meeting) {
+            return StepResult::Stop;
+        }
         let Some(MeetingState::Asked(vector)) = self.scopes.take(meeting) else {
             return StepResult::Stop;
         };
@@ -282,61 +186,83 @@ impl<R: Changes + Catalogued + Drop, H: Runtime + AllocGlobal> SiteDesk<'_, R, H
         }
     }
 
-    // The scope of a meeting; that of all that is held, where the peer did not compare.
-    fn take_scope(&mut self, meeting: usize) -> Result<MeetingScope, MeetingError> {
-        match self.scopes.take(meeting) {
-            Some(MeetingState::InScope(scope)) => Ok(scope),
-            _ => whole_scope(self.alloc, &self.site),
-        }
-    }
-
-    // Reads a greeting, and writes the site's own with the entries that the peer lacks. A peer that is refused gets the
-    // site's own all the same, by which it sees why.
-    fn answer_in_scope(
-        &mut self,
-        meeting: usize,
-        scope: &MeetingScope,
-        greeting: &[u8],
-        out: &mut Outbox,
-    ) -> StepResult {
-        match answer_bytes(self.alloc, &self.site, scope, greeting, out) {
-            Ok(()) => StepResult::Continue,
-            Err(error @ (MeetingError::OtherScript | MeetingError::SameSite)) => {
+    // The scope of all that is held; none where memory runs out or the journal has failed, which is noted.
+    fn scope_of_all(&mut self, meeting: usize) -> Option<MeetingScope> {
+        match whole_scope(self.alloc, &self.site) {
+            Ok(scope) => Some(scope),
+            Err(error) => {
                 self.note_error(meeting, error);
-                let _ = greet_into(self.alloc, &self.site, scope, out);
-                StepResult::Part
+                None
             }
-            Err(error) => self.fail(meeting, error),
         }
     }
 
-    /// The second step: reads a greeting, and writes the site's own with the entries that the peer lacks.
+    // The scope of a meeting: that of all that is held, where the peer did not compare. None if the meeting does not go
+    // on, which is noted.
+    fn take_scope(&mut self, meeting: usize) -> Option<MeetingScope> {
+        if self.refuses_meeting(meeting) {
+            return None;
+        }
+        match self.scopes.take(meeting) {
+            Some(MeetingState::InScope(scope)) => Some(scope),
+            Some(MeetingState::Greeted(greeted)) => Some(greeted.scope),
+            _ => self.scope_of_all(meeting),
+        }
+    }
+
+    // Keeps the scope of a meeting whose greeting is accepted, and what the other site lacked of what it is sent.
+    fn keep_greeted(&mut self, meeting: usize, scope: MeetingScope, lacked: Vec<(u16, u32)>) {
+        let greeted = GreetedPeer { scope, lacked };
+        self.scopes.keep(meeting, MeetingState::Greeted(greeted));
+    }
+
+    /// The second step: reads a greeting, and writes the site's own with the entries that the peer lacks. A peer that
+    /// is refused gets the site's own all the same, by which it sees why.
     pub(crate) fn answer(
         &mut self,
         meeting: usize,
         greeting: &[u8],
         out: &mut Outbox,
     ) -> StepResult {
-        match self.take_scope(meeting) {
-            Ok(scope) => {
-                let next = self.answer_in_scope(meeting, &scope, greeting, out);
-                self.scopes.keep(meeting, MeetingState::InScope(scope));
-                next
+        let Some(scope) = self.take_scope(meeting) else {
+            return StepResult::Stop;
+        };
+        let next = match answer_bytes(self.alloc, &self.site, &scope, greeting, out) {
+            Ok(()) => StepResult::Continue,
+            Err(error) if is_refused(error) => {
+                self.note_error(meeting, error);
+                let _ = greet_into(self.alloc, &self.site, &scope, out);
+                return StepResult::Part;
             }
             Err(error) => self.fail(meeting, error),
+        };
+        self.keep_greeted(meeting, scope, Vec::new(self.alloc));
+        next
+    }
+
+    // Takes note of what a meeting left out, and of what the other site lacked of what it was sent.
+    fn end_greeted(&mut self, report: &MeetingReport, greeted: GreetedPeer) {
+        let GreetedPeer { scope, lacked } = greeted;
+        let address = report.peer.ip().to_canonical();
+        self.raise_alarms(&scope.left_out, address);
+        if report.loss.is_none() {
+            self.scopes.note_lacked(report.peer, lacked);
         }
     }
 
     /// Ends a meeting, and tells whoever watches what it came to; without memory for that it counts as failed.
     pub(crate) fn end(&mut self, report: &MeetingReport) -> MeetingOutcome {
-        let _ = self.scopes.take(report.meeting);
-        match self.meetings.end(report, self.now) {
+        let outcome = match self.meetings.end(report, self.now) {
             Ok((outcome, line)) => {
                 self.tell_line(line.as_str());
                 outcome
             }
             Err(_) => MeetingOutcome::Failed,
+        };
+        if let Some(MeetingState::Greeted(greeted)) = self.scopes.take(report.meeting) {
+            self.end_greeted(report, greeted);
         }
+        outcome
     }
 
     /// Tells whoever watches why a peer is not met.
@@ -353,101 +279,57 @@ impl<R: Changes + Catalogued + Drop, H: Runtime + AllocGlobal> SiteDesk<'_, R, H
         self.wish.take()
     }
 
-    // What the site says of its statements before it takes a stream of entries; none if the stream has none, or if
-    // memory runs out. It costs a walk along what is held.
-    fn snapshot_before(&self, entries: &[u8]) -> Option<Snapshot> {
-        // (one letter is the end of a stream)
-        if entries.len() < 2 {
-            return None;
-        }
-        match Snapshot::of(self.alloc, &self.site) {
-            Ok(before) => Some(before),
-            Err(_) => None,
+    // Whether a peer that greets with this vector has taken nothing of what it was sent last: then its address.
+    fn full_peer(&self, peer: SocketAddr, vector: Option<&Vector>) -> Option<SocketAddr> {
+        match vector {
+            Some(vector) if self.scopes.has_taken_nothing(peer, vector) => Some(peer),
+            _ => None,
         }
     }
 
-    // Appends which statements have another outcome now, or change something else.
-    fn push_changes(&self, words: &mut String, before: &Snapshot) -> Result<(), AllocError> {
-        match before.compare(self.alloc, &self.site, "") {
-            Ok(changes) => push_meeting_changes(words, &changes),
-            Err(_) => Ok(()),
-        }
+    // What a peer that greets with this vector lacks of the scope; empty if that is not known.
+    fn lacked(&self, scope: &MeetingScope, vector: Option<&Vector>) -> Vec<(u16, u32)> {
+        let lacked = match vector {
+            Some(vector) => lacked_by(self.alloc, scope, vector),
+            None => Err(AllocError),
+        };
+        lacked.unwrap_or(Vec::new(self.alloc))
     }
 
-    // Appends what a step took, or why it failed.
-    fn push_taken(
-        &self,
-        words: &mut String,
-        received: Result<Received, MeetingError>,
-    ) -> Result<(), AllocError> {
-        match received {
-            Ok(received) => push_met(words, received.taken.fresh),
-            Err(error) => push_error(words, self.site.catalogue(), self.notes, error),
-        }
-    }
-
-    // Appends what a step took, or why it failed, with what that changed if something was new, and with what was not
-    // exchanged.
-    fn push_step(
-        &self,
-        words: &mut String,
-        scope: &MeetingScope,
-        received: Result<Received, MeetingError>,
-        before: Option<&Snapshot>,
-    ) -> Result<(), AllocError> {
-        self.push_taken(words, received)?;
-        match before {
-            Some(before) if fresh_of(received) > 0 => self.push_changes(words, before)?,
-            _ => {}
-        }
-        let mut lines = String::new(self.alloc);
-        push_differing(&mut lines, scope)?;
-        if let Ok(received) = &received {
-            push_not_taken(&mut lines, received)?;
-        }
-        push_lines(words, lines.as_str())
-    }
-
-    // The words of a step that took entries, or failed.
-    fn step_words(
-        &self,
-        scope: &MeetingScope,
-        received: Result<Received, MeetingError>,
-        before: Option<&Snapshot>,
-    ) -> Result<String, AllocError> {
-        let mut words = String::new(self.alloc);
-        self.push_step(&mut words, scope, received, before)?;
-        Ok(words)
-    }
-
-    // Takes note of what a step took. A site that lacks statements may issue again once it has got those that it issued
-    // before: not where they are left out.
-    fn note_received(
+    // What follows the third step. What the peer lacked counts only if it is sent to it.
+    fn end_settled(
         &mut self,
         meeting: usize,
-        scope: &MeetingScope,
         received: Result<Received, MeetingError>,
-        before: Option<&Snapshot>,
-    ) {
-        let outcome = match received {
-            Ok(_) => {
-                self.is_lacking = self.is_lacking && scope.leaves_out(self.site.site());
-                MeetingOutcome::Complete
+        scope: MeetingScope,
+        lacked: Vec<(u16, u32)>,
+    ) -> StepResult {
+        match received {
+            Ok(_) | Err(MeetingError::WriteFault { .. }) => {
+                self.keep_greeted(meeting, scope, lacked);
+                StepResult::Part
             }
-            Err(error) => outcome_of(error),
-        };
-        let words = self.step_words(scope, received, before);
-        self.note(meeting, outcome, words);
-        self.review(fresh_of(received));
+            Err(error) if is_refused(error) => StepResult::Stop,
+            Err(_) => {
+                self.keep_greeted(meeting, scope, Vec::new(self.alloc));
+                StepResult::Stop
+            }
+        }
     }
 
     /// The third step: takes the entries of a reply, and writes those that the peer lacks.
-    pub(crate) fn settle(&mut self, meeting: usize, reply: &[u8], out: &mut Outbox) -> StepResult {
-        let scope = match self.take_scope(meeting) {
-            Ok(scope) => scope,
-            Err(error) => return self.fail(meeting, error),
+    pub(crate) fn settle(
+        &mut self,
+        meeting: usize,
+        peer: SocketAddr,
+        reply: &[u8],
+        out: &mut Outbox,
+    ) -> StepResult {
+        let Some(scope) = self.take_scope(meeting) else {
+            return StepResult::Stop;
         };
-        let before = self.snapshot_before(entries_of(reply));
+        let entries = entries_of(reply);
+        let before = self.snapshot_before(entries);
         let received = settle_bytes(
             self.alloc,
             &mut self.site,
@@ -456,22 +338,33 @@ impl<R: Changes + Catalogued + Drop, H: Runtime + AllocGlobal> SiteDesk<'_, R, H
             out,
             &mut self.meter,
         );
-        let next = match received {
-            Ok(_) | Err(MeetingError::WriteFault { .. }) => StepResult::Part,
-            Err(_) => StepResult::Stop,
+        let vector = greeted_vector(self.alloc, reply);
+        let step = TakingStep {
+            scope: &scope,
+            received,
+            came: entries.len(),
+            before: before.as_ref(),
+            full_peer: self.full_peer(peer, vector.as_ref()),
         };
-        self.note_received(meeting, &scope, received, before.as_ref());
-        next
+        self.note_received(meeting, &step);
+        let lacked = self.lacked(&scope, vector.as_ref());
+        self.end_settled(meeting, received, scope, lacked)
     }
 
     /// The fourth step: takes the entries of the peer, and notes what it came to.
     pub(crate) fn finish(&mut self, meeting: usize, entries: &[u8]) {
-        let scope = match self.take_scope(meeting) {
-            Ok(scope) => scope,
-            Err(error) => return self.note_error(meeting, error),
+        let Some(scope) = self.take_scope(meeting) else {
+            return;
         };
         let before = self.snapshot_before(entries);
-        let received = finish_bytes(self.alloc, &mut self.site, &scope, entries, &mut self.meter);
-        self.note_received(meeting, &scope, received, before.as_ref());
+        let step = TakingStep {
+            scope: &scope,
+            received: finish_bytes(self.alloc, &mut self.site, &scope, entries, &mut self.meter),
+            came: entries.len(),
+            before: before.as_ref(),
+            full_peer: None,
+        };
+        self.note_received(meeting, &step);
+        self.keep_greeted(meeting, scope, Vec::new(self.alloc));
     }
 }

@@ -1,5 +1,6 @@
 //! What a site is asked that stays as it was.
 
+use crate::digests::write_digests;
 use crate::reversals::Reversals;
 use crate::values::{Range, write_heading, write_value};
 use crate::words::{
@@ -14,7 +15,7 @@ use td_journal_files::Notes;
 use td_relations::Delta;
 use td_replica::{AskError, Catalogued, PastError, TellError};
 use td_semantics::{Answer, Meter, Outcome};
-use td_site_messages::{SiteFault, push_changes, raise_meaning};
+use td_site_messages::{BROKEN, SiteFault, push_changes, raise_meaning};
 use td_stamps::{Entry, Held, Stamp};
 use td_values::Name;
 
@@ -100,7 +101,6 @@ impl<R: Changes + Catalogued> SiteView<'_, R> {
     /// Appends what the site is and what it holds.
     pub(crate) fn tell_site(&self, out: &mut Writer) -> Result<(), AllocError> {
         write_count(out, "site", u64::from(self.site.site()))?;
-        write_truth(out, "open", self.site.is_open())?;
         let (held, limit) = match self.site.held() {
             Ok(held) => (held.len(), held.limit()),
             Err(_) => (0, 0),
@@ -118,6 +118,15 @@ impl<R: Changes + Catalogued> SiteView<'_, R> {
             write_vector(self.alloc, held, out)?;
         }
         out.end_object()
+    }
+
+    /// Appends what the site holds in a few digits.
+    pub(crate) fn tell_digest(&self, out: &mut Writer) -> Result<StatusCode, AllocError> {
+        let Ok(held) = self.site.held() else {
+            return fault(out, StatusCode::INTERNAL_SERVER_ERROR, BROKEN);
+        };
+        write_digests(self.alloc, held, out)?;
+        Ok(StatusCode::OK)
     }
 
     // Appends how many tuples a relvar has, null if it has no value.

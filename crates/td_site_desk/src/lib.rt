@@ -19,15 +19,19 @@
 
 mod console;
 mod desk;
+mod differing;
+mod digests;
 mod exchange;
 mod inquiries;
 mod keys;
 mod meetings;
+mod received;
 mod reversals;
 mod scopes;
 mod server;
 mod statements;
 mod steps;
+mod suspension;
 mod values;
 mod words;
 

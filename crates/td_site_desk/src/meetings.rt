@@ -131,7 +131,10 @@ impl Meetings {
         self.ended.push_back(Meeting {
             peer: report.peer,
             is_called: report.side == MeetingSide::First,
-            is_met: note.outcome != MeetingOutcome::Failed,
+            is_met: matches!(
+                note.outcome,
+                MeetingOutcome::Complete | MeetingOutcome::Partial
+            ),
             words: note.words,
             ended: now,
         })?;

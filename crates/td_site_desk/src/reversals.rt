@@ -2,19 +2,12 @@
 
 use crate::words::{is_same, read_stamp};
 use std::alloc::{AllocError, Global};
-use std::fs::{OpenFile, OpenOptions};
-use std::io::Write;
-use std::os::unix::fs::OpenOptionsExt;
 use std::rt::Files;
-use std::{fs, io};
 use td_listings::show_stamp;
-use td_paths::{Unreadable, read_plain};
+use td_paths::{Unreadable, read_plain, replace_file};
 use td_replica::Replica;
 use td_semantics::Outcome;
 use td_stamps::Stamp;
-
-/// The rights of a file that its owner alone may read and write.
-const OWN: u32 = 0o600;
 
 /// The statements of this site that were done and are refused now, until a person has seen that; and those that are
 /// done. The reversed ones are kept in a file beside the journal, a stamp on each line.
@@ -70,18 +63,6 @@ fn stamps_in<H: Files + AllocGlobal>(
         Ok(text) => stamps_of(alloc, text.as_str()),
         Err(_) => Err(Unreadable::Failed),
     }
-}
-
-// Writes a file anew, and hands it to the disk.
-fn write_synced<H: Files>(host: &H, name: &str, text: &str) -> io::Result<()> {
-    let mut file = OpenOptions::new()
-        .write(true)
-        .create(true)
-        .truncate(true)
-        .mode(OWN)
-        .open(host, name)?;
-    file.write_all(text.as_bytes())?;
-    file.sync_all()
 }
 
 impl Reversals {
@@ -187,7 +168,7 @@ impl Reversals {
         }
     }
 
-    /// Writes the file anew: beside it, on the disk, and then in its place. Returns whether that was done.
+    /// Replaces the file; returns whether that was done. Without a file there is nothing to do.
     pub(crate) fn save<H: Files>(&self, host: &H) -> Result<bool, AllocError> {
         let Some(name) = &self.name else {
             return Ok(true);
@@ -195,7 +176,6 @@ impl Reversals {
         let name = name.as_str();
         let beside = format!(in self.alloc; "{name}.new")?;
         let text = self.text()?;
-        let is_written = write_synced(host, beside.as_str(), text.as_str()).is_ok();
-        Ok(is_written && fs::rename(host, beside.as_str(), name).is_ok())
+        Ok(replace_file(host, name, beside.as_str(), text.as_str()).is_ok())
     }
 }

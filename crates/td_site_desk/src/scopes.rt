@@ -1,4 +1,4 @@
-//! What is known of the meetings under way, and of peers that do not compare.
+//! What is known of the meetings under way, and of the peers that were called.
 
 use std::alloc::{AllocError, Global};
 use std::net::SocketAddr;
@@ -16,16 +16,57 @@ pub(crate) enum MeetingState {
     Asked(Vector),
     /// It is known what is exchanged.
     InScope(MeetingScope),
+    /// The other site's greeting was accepted.
+    Greeted(GreetedPeer),
 }
 
-/// Whether a peer compares.
-#[derive(Clone, Copy)]
+/// A meeting whose greeting was accepted.
+#[derive(Drop)]
+pub(crate) struct GreetedPeer {
+    pub(crate) scope: MeetingScope,
+    /// Of each site whose statements it was sent, up to which number it had them before.
+    pub(crate) lacked: Vec<(u16, u32)>,
+}
+
+/// A peer that was called.
+#[derive(Drop)]
 struct KnownPeer {
     address: SocketAddr,
     /// It has compared.
     has_compared: bool,
     /// When it last closed the connection in place of an answer.
     plain_since: Option<u64>,
+    /// Of each site whose statements it was sent last, up to which number it had them before.
+    lacked: Vec<(u16, u32)>,
+}
+
+impl KnownPeer {
+    // Whether the peer has taken nothing of what it was sent last, if it greets with this version vector.
+    fn has_taken_nothing(&self, vector: &Vector) -> bool {
+        !self.lacked.is_empty()
+            && self
+                .lacked
+                .iter()
+                .all(|(site, number)| vector.number(*site) <= *number)
+    }
+}
+
+/// Of each site that a peer with this version vector lacks statements of, which are in the scope, up to which number it
+/// has them.
+pub(crate) fn lacked_by(
+    alloc: Global,
+    scope: &MeetingScope,
+    vector: &Vector,
+) -> Result<Vec<(u16, u32)>, AllocError> {
+    let mut lacked = Vec::new(alloc);
+    let entries = scope.vector.entries(alloc)?;
+    for (site, number) in &entries {
+        let has = vector.number(*site);
+        if has < *number && !scope.leaves_out(*site) {
+            lacked.push((*site, has))?;
+        }
+    }
+    Ok(lacked)
 }
 
 /// The meetings under way, each under its number, and the peers that were called.
@@ -47,6 +88,7 @@ impl Scopes {
                 address: *peer,
                 has_compared: false,
                 plain_since: None,
+                lacked: Vec::new(alloc),
             })?;
         }
         Ok(Scopes { states, known })
@@ -98,5 +140,19 @@ impl Scopes {
                     .plain_since
                     .is_some_and(|since| now.saturating_sub(since) < PLAIN_TIME)
         })
+    }
+
+    /// Notes what a peer lacked of what it was sent; nothing if it is not known that it was sent all of that.
+    pub(crate) fn note_lacked(&mut self, peer: SocketAddr, lacked: Vec<(u16, u32)>) {
+        if let Some(at) = self.known.iter().position(|known| known.address == peer)
+            && let Some(known) = self.known.get_mut(at)
+        {
+            known.lacked = lacked;
+        }
+    }
+
+    /// Whether a peer that greets with this version vector has taken nothing of what it was sent last.
+    pub(crate) fn has_taken_nothing(&self, peer: SocketAddr, vector: &Vector) -> bool {
+        self.known.iter().any(|known| known.address == peer && known.has_taken_nothing(vector))
     }
 }

@@ -26,6 +26,10 @@ impl<'a, R: Drop, H> SiteServer<'a, R, H> {
     pub fn new(api: Api<SiteDesk<'a, R, H>>) -> SiteServer<'a, R, H> {
         SiteServer { api, answered: 0 }
     }
+
+    pub fn into_api(self) -> Api<SiteDesk<'a, R, H>> {
+        self.api
+    }
 }
 
 impl<R: Changes + Catalogued + Drop, H: Runtime + AllocGlobal> Service for SiteServer<'_, R, H> {
@@ -70,8 +74,14 @@ impl<R: Changes + Catalogued + Drop, H: Runtime + AllocGlobal> Meets for SiteSer
         self.api.desk.answer(meeting, greeting, out)
     }
 
-    fn settle(&mut self, meeting: usize, reply: &[u8], out: &mut Outbox) -> StepResult {
-        self.api.desk.settle(meeting, reply, out)
+    fn settle(
+        &mut self,
+        meeting: usize,
+        peer: SocketAddr,
+        reply: &[u8],
+        out: &mut Outbox,
+    ) -> StepResult {
+        self.api.desk.settle(meeting, peer, reply, out)
     }
 
     fn finish(&mut self, meeting: usize, entries: &[u8]) {
@@ -98,6 +108,10 @@ impl<R: Changes + Catalogued + Drop, H: Runtime + AllocGlobal> Server for SiteSe
 
     fn is_stopping(&self) -> bool {
         self.api.desk.is_stopping()
+    }
+
+    fn is_leaving(&self) -> bool {
+        self.api.desk.is_leaving()
     }
 
     fn pass_time(&mut self, now: u64) {

@@ -14,8 +14,9 @@ use std::alloc::{AllocError, Global};
 use std::rt::Runtime;
 use td_changes::Changes;
 use td_http_api::{StatusCode, Writer};
+use td_journal_files::SyncFailure;
 use td_replica::{Catalogued, IssueError, Issued};
-use td_site_messages::{LACKING, SiteFault};
+use td_site_messages::{LACKING, SiteFault, failure_words};
 use td_stamps::Stamp;
 
 /// The most bytes of a key.
@@ -28,17 +29,19 @@ fn status_of(error: IssueError) -> StatusCode
     match error {
         IssueError::Syntax | IssueError::IllTyped => StatusCode::UNPROCESSABLE_ENTITY,
         IssueError::ClockEnd | IssueError::Full => StatusCode::INSUFFICIENT_STORAGE,
-        IssueError::Broken | IssueError::JournalWrite => StatusCode::INTERNAL_SERVER_ERROR,
-        IssueError::OutOfMemory => StatusCode::SERVICE_UNAVAILABLE,
+        IssueError::Broken | IssueError::JournalWrite | IssueError::OutOfMemory => {
+            StatusCode::SERVICE_UNAVAILABLE
+        }
     }
 }
 
-// Appends the stamp of a statement, and that it is done or why it is refused; the status is 200 for both.
+// Appends the stamp of a statement, that it is done or why it is refused, and a warning; the status is 200 for all.
 fn write_issued(
     alloc: Global,
     out: &mut Writer,
     stamp: &Stamp,
     reason: Option<&str>,
+    warning: Option<&str>,
 ) -> Result<StatusCode, AllocError>
     ensures { IfOk result (λ status. status ≡ 200) }
 {
@@ -47,7 +50,18 @@ fn write_issued(
         Some(reason) => write_text(out, "refused", reason)?,
         None => write_truth(out, "done", true)?,
     }
+    if let Some(warning) = warning {
+        write_text(out, "warning", warning)?;
+    }
     Ok(StatusCode::OK)
+}
+
+// What is said of a statement that the journal does not have.
+fn unwritten_words(alloc: Global, failure: Option<SyncFailure>) -> Result<String, AllocError> {
+    let why = failure_words(failure);
+    format!(in alloc;
+        "journal: the journal cannot be written: {why}. This is not kept, and all before it is. Mend that: it is tried again"
+    )
 }
 
 impl<R: Changes + Catalogued + Drop, H: Runtime + AllocGlobal> SiteDesk<'_, R, H> {
@@ -90,7 +104,16 @@ impl<R: Changes + Catalogued + Drop, H: Runtime + AllocGlobal> SiteDesk<'_, R, H
             None => None,
         };
         self.keep_issued(issued, keyed, words);
-        write_issued(self.alloc, out, &issued.stamp, words)
+        write_issued(self.alloc, out, &issued.stamp, words, self.warning())
+    }
+
+    // Why a statement is not issued.
+    fn unissued_words(&self, text: &str, error: IssueError) -> Result<String, AllocError> {
+        if error == IssueError::JournalWrite {
+            return unwritten_words(self.alloc, self.notes.failure());
+        }
+        let issue = SiteFault::NotIssued { text, error };
+        fault_words(self.alloc, self.site.catalogue(), self.notes, issue)
     }
 
     // Answers why a statement is not issued, and tells whoever watches too if the journal was not written.
@@ -102,8 +125,7 @@ impl<R: Changes + Catalogued + Drop, H: Runtime + AllocGlobal> SiteDesk<'_, R, H
     ) -> Result<StatusCode, AllocError>
         ensures { IfOk result (λ status. 400 ≤ status) }
     {
-        let issue = SiteFault::NotIssued { text, error };
-        let words = fault_words(self.alloc, self.site.catalogue(), self.notes, issue)?;
+        let words = self.unissued_words(text, error)?;
         if error == IssueError::JournalWrite {
             let _ = println!(self.host; "fault {words}");
         }
@@ -136,6 +158,9 @@ impl<R: Changes + Catalogued + Drop, H: Runtime + AllocGlobal> SiteDesk<'_, R, H
         ensures { option_copied key.entry ≡ None
             → IfOk result (λ known. IfSome known (λ status. 400 ≤ status)) }
     {
+        if let Some(why) = self.suspended() {
+            return Ok(Some(fault(out, StatusCode::SERVICE_UNAVAILABLE, why)?));
+        }
         if self.is_lacking {
             return Ok(Some(fault(out, StatusCode::SERVICE_UNAVAILABLE, LACKING)?));
         }
@@ -157,7 +182,8 @@ impl<R: Changes + Catalogued + Drop, H: Runtime + AllocGlobal> SiteDesk<'_, R, H
             Some(reason) => Some(reason.as_str()),
             None => None,
         };
-        Ok(Some(write_issued(self.alloc, out, &keyed.stamp, reason)?))
+        let status = write_issued(self.alloc, out, &keyed.stamp, reason, self.warning())?;
+        Ok(Some(status))
     }
 
     /// Issues a statement, or gives the kept answer if its key was seen, or a fault if it is not to be issued.

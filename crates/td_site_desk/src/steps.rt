@@ -5,6 +5,7 @@ use td_checked_meetings::{
     MeetingScope, Received, answer, answer_question, ask, compare, finish, greet, settle,
 };
 use td_event_loop::Outbox;
+use td_frames::read_greeting;
 use td_io::Device;
 use td_meeting::MeetingError;
 use td_replica::Replica;
@@ -76,6 +77,14 @@ pub(crate) fn answer_bytes<R: Replica>(
     ) {
         Ok(_) => Ok(()),
         Err(error) => Err(error),
+    }
+}
+
+/// The version vector of a greeting; none if it is not complete, or if memory runs out.
+pub(crate) fn greeted_vector(alloc: Global, greeting: &[u8]) -> Option<Vector> {
+    match read_greeting(alloc, &mut Device::new(greeting)) {
+        Ok(greeting) => Some(greeting.vector),
+        Err(_) => None,
     }
 }
 

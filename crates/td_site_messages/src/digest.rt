@@ -1,5 +1,6 @@
 //! What a site holds in a few digits, so that two people can compare it by voice.
 
+use crate::wording::push_count;
 use sha2::{Digest, Sha256};
 use std::alloc::{AllocError, Global};
 use td_stamps::{Entry, Held};
@@ -17,43 +18,60 @@ fn feed(hasher: &mut Sha256, entry: &Entry) {
     hasher.update(text);
 }
 
-// Appends the digest in hexadecimal digits, with a blank before each eight of them, and a line end.
-fn push_digits(out: &mut String, digest: &[u8; 32]) -> Result<(), AllocError> {
-    for (at, byte) in digest.iter().enumerate() {
-        if at % 4 == 0 {
+/// Appends a sum in hexadecimal digits, with a blank between eight of them and the next.
+pub fn push_sum(out: &mut String, sum: &[u8; 32]) -> Result<(), AllocError> {
+    for (at, byte) in sum.iter().enumerate() {
+        if at > 0 && at % 4 == 0 {
             out.push_str(" ")?;
         }
         write!(out, "{byte:02x}")?;
     }
+    Ok(())
+}
+
+// Appends the line of a digest.
+fn push_line(out: &mut String, digest: &HeldDigest) -> Result<(), AllocError> {
+    let HeldDigest {
+        site,
+        count,
+        number,
+        sum,
+    } = digest;
+    write!(out, "site {site}: ")?;
+    push_count(out, *count, "statement")?;
+    write!(out, " up to number {number}, SHA-256 ")?;
+    push_sum(out, sum)?;
     out.push_str("\n")
 }
 
-// A line for the entries of one site at these places, in the order of their numbers.
-fn push_site(
-    out: &mut String,
-    site: u16,
-    entries: &[Entry],
-    places: &[(u16, usize)],
-) -> Result<(), AllocError> {
+/// The statements of a site that are held, in a few digits.
+#[derive(Clone, Copy)]
+pub struct HeldDigest {
+    pub site: u16,
+    /// How many there are.
+    pub count: usize,
+    /// The number of the last one.
+    pub number: u32,
+    /// The SHA-256 of their frames, in the order of their numbers.
+    pub sum: [u8; 32],
+}
+
+// The digest of the entries of one site at these places, which are in the order of their numbers.
+fn digest_at(site: u16, entries: &[Entry], places: &[(u16, usize)]) -> HeldDigest {
     let mut hasher = Sha256::new();
-    let mut last = 0;
+    let mut number = 0;
     for (_, place) in places {
         if let Some(entry) = entries.get(*place) {
             feed(&mut hasher, entry);
-            last = entry.seq;
+            number = entry.seq;
         }
     }
-    let count = places.len();
-    let what = if count == 1 {
-        "statement"
-    } else {
-        "statements"
-    };
-    write!(
-        out,
-        "site {site}: {count} {what} up to number {last}, SHA-256"
-    )?;
-    push_digits(out, &hasher.finalize())
+    HeldDigest {
+        site,
+        count: places.len(),
+        number,
+        sum: hasher.finalize(),
+    }
 }
 
 // The site and the place of each entry that is asked for, by sites, and those of one site by places, which is the order
@@ -77,12 +95,13 @@ fn places_of(
     Ok(places)
 }
 
-// A line for each site that has an entry at these places.
-fn push_sites(
-    out: &mut String,
+// The digest of each site that has an entry at these places.
+fn digests_at(
+    alloc: Global,
     entries: &[Entry],
     places: &[(u16, usize)],
-) -> Result<(), AllocError> {
+) -> Result<Vec<HeldDigest>, AllocError> {
+    let mut digests = Vec::new(alloc);
     let mut rest = places;
     for _ in 0..places.len() {
         let Some((site, _)) = rest.first() else {
@@ -90,20 +109,32 @@ fn push_sites(
         };
         let count = rest.iter().take_while(|place| place.0 == *site).count();
         let (own, others) = rest.split_at_checked(count).unwrap_or((rest, &[]));
-        push_site(out, *site, entries, own)?;
+        digests.push(digest_at(*site, entries, own))?;
         rest = others;
     }
-    Ok(())
+    Ok(digests)
 }
 
-/// Appends for each site of which statements are held how many, up to which number, and a SHA-256 over their frames in
-/// the order of their numbers; for one site alone, and up to a number, where these are given. It sorts what is held by
-/// its sites.
+/// The digest of each site of which statements are held; of one site alone, and up to a number, where these are given.
+/// It sorts what is held by its sites.
+pub fn held_digests(
+    alloc: Global,
+    held: &Held,
+    of: Option<(u16, u32)>,
+) -> Result<Vec<HeldDigest>, AllocError> {
+    let places = places_of(alloc, held.entries(), of)?;
+    digests_at(alloc, held.entries(), &places)
+}
+
+/// Appends a line for each of these digests: how many statements, up to which number, and their sum.
 pub fn push_digest(
     out: &mut String,
     held: &Held,
     of: Option<(u16, u32)>,
 ) -> Result<(), AllocError> {
-    let places = places_of(*out.allocator(), held.entries(), of)?;
-    push_sites(out, held.entries(), &places)
+    let digests = held_digests(*out.allocator(), held, of)?;
+    for digest in &digests {
+        push_line(out, digest)?;
+    }
+    Ok(())
 }

@@ -42,7 +42,7 @@ mod wording;
 pub use alarms::{push_acknowledged, push_alarms, push_own_alarm, push_start_alarms};
 pub use changes::{push_change_count, push_changes};
 pub use differing::{push_differing, push_not_taken};
-pub use digest::push_digest;
+pub use digest::{HeldDigest, held_digests, push_digest, push_sum};
 pub use fault::{SiteFault, push_site_fault};
 pub use gaps::push_own_gap;
 pub use journal::{failure_words, push_journal, push_read_only_journal};

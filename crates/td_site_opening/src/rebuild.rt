@@ -5,7 +5,7 @@ use crate::options::SiteOptions;
 use std::alloc::{AllocError, Global};
 use std::fs;
 use std::rt::Files;
-use td_paths::{Unreadable, replace_file, sync_folder};
+use td_paths::{Unreadable, remove_file, replace_file};
 
 /// What the name of the file ends in that is beside a journal until its site has met another one.
 const ENDING: &str = ".rebuild";
@@ -64,8 +64,7 @@ pub(crate) fn begin_rebuild<H: Files>(
 /// Removes the file of this name beside a journal, whose site has met another one. Where that fails the site issues
 /// nothing at its next start either, until it has met one again.
 pub fn end_rebuild<H: Files>(host: &H, mark: &str) {
-    let _removed = fs::remove_file(host, mark);
-    let _synced = sync_folder(host, mark);
+    let _removed = remove_file(host, mark);
 }
 
 /// Appends that the file beside a journal is not made.

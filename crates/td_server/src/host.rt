@@ -1,0 +1,112 @@
+//! What the server of a site goes by, and the files beside its journal.
+
+use crate::token::open_token;
+use crate::words::ServerOptions;
+use std::alloc::AllocError;
+use td_alarms::Alarms;
+use td_io::Device;
+use td_journal::Keeper;
+use td_journal_files::{Notes, Synced};
+use td_paths::Unreadable;
+use td_replica::Replica;
+use td_site_desk::Reversals;
+use td_site_messages::push_journal;
+use td_site_opening::{ExitStatus, OUT_OF_MEMORY, complain, find_mark, is_lacking};
+
+/// A site that is kept in the file of its journal.
+pub(crate) type KeptSite<'a, R> = Keeper<R, Device<Synced<'a, HostRuntime>>>;
+
+/// What the server of a site goes by.
+#[derive(Clone, Copy)]
+pub(crate) struct Host<'a> {
+    pub(crate) rt: &'a HostRuntime,
+    pub(crate) options: &'a ServerOptions<'a>,
+    pub(crate) script: &'a str,
+    pub(crate) notes: &'a Notes,
+    /// The name of the journal.
+    pub(crate) journal: &'a str,
+}
+
+/// Reports that memory ran out, and returns the exit status for that.
+pub(crate) fn report_memory(rt: &HostRuntime) -> ExitStatus {
+    let _ = eprint!(rt; "{}", OUT_OF_MEMORY);
+    ExitStatus::Fault
+}
+
+impl Host<'_> {
+    /// Reports what was found of the journal; returns whether the site issues nothing until it has met another one.
+    pub(crate) fn report_journal<R: Replica>(self, site: &R) -> Result<bool, AllocError> {
+        let mut found = String::new(self.rt.alloc());
+        push_journal(&mut found, Some(self.journal), self.notes.found(), site)?;
+        let mut faults = Device::new(self.rt.stderr());
+        complain(&mut faults, found.as_str());
+        let mark = self.find_mark()?;
+        let mark = match &mark {
+            Some(mark) => Some(mark.as_str()),
+            None => None,
+        };
+        Ok(is_lacking(self.rt, &self.options.site, self.notes, mark, &mut faults))
+    }
+
+    /// The name of the file that is there until a rebuilt site has met another one, if it is there.
+    pub(crate) fn find_mark(self) -> Result<Option<String>, AllocError> {
+        find_mark(self.rt.alloc(), self.rt, Some(self.journal))
+    }
+
+    /// The token, or the exit status after a report why there is none.
+    pub(crate) fn open_token(self) -> Result<String, ExitStatus> {
+        let alloc = self.rt.alloc();
+        let journal = self.journal;
+        let Ok(beside) = format!(in alloc; "{journal}.token") else {
+            return Err(report_memory(self.rt));
+        };
+        let name = self.options.token_file.unwrap_or(beside.as_str());
+        match open_token(alloc, self.rt, name) {
+            Ok(token) => Ok(token),
+            Err(error) => {
+                let why = error.words();
+                let _ = eprintln!(self.rt; "fault token {name}: {why}");
+                Err(ExitStatus::BadWords)
+            }
+        }
+    }
+
+    /// The statements that were done and are refused now, or the exit status after a report why their list is not read.
+    pub(crate) fn open_reversals(self) -> Result<Reversals, ExitStatus> {
+        let alloc = self.rt.alloc();
+        let journal = self.journal;
+        let Ok(name) = format!(in alloc; "{journal}.reversed") else {
+            return Err(report_memory(self.rt));
+        };
+        match Reversals::open(alloc, self.rt, Some(name)) {
+            Ok(reversals) => Ok(reversals),
+            Err(error) => Err(self.report_list(".reversed", error)),
+        }
+    }
+
+    /// The alarms that nobody has acknowledged, or the exit status after a report why their list is not read.
+    pub(crate) fn open_alarms(self) -> Result<Alarms, ExitStatus> {
+        let alloc = self.rt.alloc();
+        let journal = self.journal;
+        let Ok(name) = format!(in alloc; "{journal}.differing") else {
+            return Err(report_memory(self.rt));
+        };
+        match Alarms::open(alloc, self.rt, Some(name)) {
+            Ok(alarms) => Ok(alarms),
+            Err(error) => Err(self.report_list(".differing", error)),
+        }
+    }
+
+    // Reports why a list beside the journal is not read, and returns the exit status.
+    fn report_list(self, ending: &str, error: Unreadable) -> ExitStatus {
+        if matches!(error, Unreadable::OutOfMemory) {
+            return report_memory(self.rt);
+        }
+        let journal = self.journal;
+        let why = error.words();
+        let _ = eprintln!(self.rt;
+            "fault file {journal}{ending}: {why}; move it away to begin a new list"
+        );
+        ExitStatus::BadJournal
+    }
+}
