@@ -71,8 +71,11 @@ impl Inbox {
         self.bytes.truncate(length - count);
     }
 
-    // Reads once. Returns whether something came.
+    // Reads once, unless a read has failed. Returns whether something came.
     fn read_some<S: Source>(&mut self, source: &mut S) -> Result<bool, MeetingError> {
+        if self.has_failed {
+            return Ok(false);
+        }
         match source.read_some(&mut self.buffer) {
             Ok(count) => match self.bytes.extend_from_slice(&self.buffer[..count]) {
                 Ok(()) => Ok(count > 0),
