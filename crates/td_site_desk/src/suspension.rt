@@ -22,7 +22,7 @@ pub(crate) struct Suspension {
 impl<'a, R: Drop, H> SiteDesk<'a, R, H> {
     /// The site, and the desk over another one in its place.
     pub fn with_site<S: Drop>(self, site: S) -> (R, SiteDesk<'a, S, H>)
-        ensures old { result.0 ≡ self.site }
+        ensures old { result.0 ≡ self.entry.site }
         ensures new { result.1.site ≡ site }
     {
         let desk = SiteDesk {
