@@ -43,7 +43,7 @@ fn own_digest(
     digests_of(alloc, held, &[(of, number)])
 }
 
-// Writes the question, and hands it on.
+// Writes the question, and flushes it.
 fn put_question<R: Replica, C: Channel>(
     site: &R,
     digests: &[SiteDigest],

@@ -1,4 +1,4 @@
-//! A journal that is begun anew under the number of a site that had another one.
+//! A journal that is begun for a site that had another one.
 
 use crate::fault::JournalFault;
 use crate::options::SiteOptions;

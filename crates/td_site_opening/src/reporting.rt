@@ -15,9 +15,9 @@ use td_replica::Opens;
 use td_semantics::Meter;
 use td_site_messages::LACKING;
 
-/// What is said of a site whose journal was begun anew, and that has met no other one since.
+/// What is said of a site that is rebuilt, and that has met no other one since.
 const REBUILT: &str =
-    "the journal was begun anew by --rebuild, and no meeting has come to its end since\n";
+    "the journal was begun by --rebuild, and no meeting has come to its end since\n";
 
 /// Writes a text to the output of faults. Nothing depends on whether that is seen.
 pub fn complain<F: Sink>(faults: &mut F, text: &str) {
@@ -124,7 +124,7 @@ fn forget_rebuild<H: Files>(host: &H, mark: Option<&str>) {
 }
 
 /// Whether the site issues nothing until it has met another one: its journal has less than it had once, or a file of the
-/// name `mark` is beside it, since it was begun anew. That is reported. If the words say that it goes on all the same,
+/// name `mark` is beside it, since the site is rebuilt. That is reported. If the words say that it goes on all the same,
 /// it issues statements at once.
 pub fn is_lacking<H: Files, F: Sink>(
     host: &H,
