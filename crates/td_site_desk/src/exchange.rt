@@ -340,13 +340,11 @@ impl<R: Changes + Catalogued + Drop, H: Runtime + AllocGlobal> SiteDesk<'_, R, H
         );
         let vector = greeted_vector(self.alloc, reply);
         let step = TakingStep {
-            scope: &scope,
             received,
             came: entries.len(),
-            before: before.as_ref(),
             full_peer: self.full_peer(peer, vector.as_ref()),
         };
-        self.note_received(meeting, &step);
+        self.note_received(meeting, &scope, &step, before.as_ref());
         let lacked = self.lacked(&scope, vector.as_ref());
         self.end_settled(meeting, received, scope, lacked)
     }
@@ -358,13 +356,11 @@ impl<R: Changes + Catalogued + Drop, H: Runtime + AllocGlobal> SiteDesk<'_, R, H
         };
         let before = self.snapshot_before(entries);
         let step = TakingStep {
-            scope: &scope,
             received: finish_bytes(self.alloc, &mut self.site, &scope, entries, &mut self.meter),
             came: entries.len(),
-            before: before.as_ref(),
             full_peer: None,
         };
-        self.note_received(meeting, &step);
+        self.note_received(meeting, &scope, &step, before.as_ref());
         self.keep_greeted(meeting, scope, Vec::new(self.alloc));
     }
 }

@@ -23,13 +23,10 @@ const LONG_STREAM: usize = 1_048_576;
 
 /// A step that took entries, or failed.
 #[derive(Clone, Copy)]
-pub(crate) struct TakingStep<'a> {
-    pub(crate) scope: &'a MeetingScope,
+pub(crate) struct TakingStep {
     pub(crate) received: Result<Received, MeetingError>,
     /// How many bytes of entries came.
     pub(crate) came: usize,
-    /// What the site said of its statements before.
-    pub(crate) before: Option<&'a Snapshot>,
     /// The address of the peer, if it has taken nothing of what it was sent last.
     pub(crate) full_peer: Option<SocketAddr>,
 }
@@ -63,7 +60,7 @@ fn taken_of(error: MeetingError) -> usize {
     }
 }
 
-impl TakingStep<'_> {
+impl TakingStep {
     // How many new statements it took.
     fn fresh(&self) -> usize {
         match self.received {
@@ -194,7 +191,7 @@ impl<R: Changes + Catalogued + Drop, H: Runtime + AllocGlobal> SiteDesk<'_, R, H
     }
 
     // Appends what a step took, or why it failed.
-    fn push_taken(&self, words: &mut String, step: &TakingStep<'_>) -> Result<(), AllocError> {
+    fn push_taken(&self, words: &mut String, step: &TakingStep) -> Result<(), AllocError> {
         match step.received {
             Ok(received) => push_met(words, received.taken.fresh),
             Err(error) => {
@@ -205,9 +202,14 @@ impl<R: Changes + Catalogued + Drop, H: Runtime + AllocGlobal> SiteDesk<'_, R, H
     }
 
     // Appends what was not exchanged, here and at the peer.
-    fn push_left_out(&self, words: &mut String, step: &TakingStep<'_>) -> Result<(), AllocError> {
+    fn push_left_out(
+        &self,
+        words: &mut String,
+        scope: &MeetingScope,
+        step: &TakingStep,
+    ) -> Result<(), AllocError> {
         let mut lines = String::new(self.alloc);
-        push_differing(&mut lines, step.scope)?;
+        push_differing(&mut lines, scope)?;
         if let Ok(received) = &step.received {
             push_not_taken(&mut lines, received)?;
         }
@@ -217,19 +219,30 @@ impl<R: Changes + Catalogued + Drop, H: Runtime + AllocGlobal> SiteDesk<'_, R, H
 
     // Appends what a step took, or why it failed, with what that changed if something was new, and with what was not
     // exchanged.
-    fn push_step(&self, words: &mut String, step: &TakingStep<'_>) -> Result<(), AllocError> {
+    fn push_step(
+        &self,
+        words: &mut String,
+        scope: &MeetingScope,
+        step: &TakingStep,
+        before: Option<&Snapshot>,
+    ) -> Result<(), AllocError> {
         self.push_taken(words, step)?;
-        match step.before {
+        match before {
             Some(before) if step.fresh() > 0 => self.push_changes(words, before)?,
             _ => {}
         }
-        self.push_left_out(words, step)
+        self.push_left_out(words, scope, step)
     }
 
     // The words of a step that took entries, or failed.
-    fn step_words(&self, step: &TakingStep<'_>) -> Result<String, AllocError> {
+    fn step_words(
+        &self,
+        scope: &MeetingScope,
+        step: &TakingStep,
+        before: Option<&Snapshot>,
+    ) -> Result<String, AllocError> {
         let mut words = String::new(self.alloc);
-        self.push_step(&mut words, step)?;
+        self.push_step(&mut words, scope, step, before)?;
         Ok(words)
     }
 
@@ -263,13 +276,19 @@ impl<R: Changes + Catalogued + Drop, H: Runtime + AllocGlobal> SiteDesk<'_, R, H
         self.mark = None;
     }
 
-    /// Takes note of what a step took. A site that lacks statements may issue again once it has got those that it
-    /// issued before: not where they are left out.
-    pub(crate) fn note_received(&mut self, meeting: usize, step: &TakingStep<'_>) {
-        if step.received.is_ok() && !step.scope.leaves_out(self.site.site()) {
+    /// Takes note of what a step took in this scope, and of what that changed since `before`. A site that lacks
+    /// statements may issue again once it has got those that it issued before: not where they are left out.
+    pub(crate) fn note_received(
+        &mut self,
+        meeting: usize,
+        scope: &MeetingScope,
+        step: &TakingStep,
+        before: Option<&Snapshot>,
+    ) {
+        if step.received.is_ok() && !scope.leaves_out(self.site.site()) {
             self.end_lacking();
         }
-        let words = self.step_words(step);
+        let words = self.step_words(scope, step, before);
         self.note(meeting, step.outcome(), words);
         self.review(step.fresh());
     }
