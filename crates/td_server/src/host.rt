@@ -10,7 +10,7 @@ use td_journal_files::{Notes, Synced};
 use td_paths::Unreadable;
 use td_replica::Replica;
 use td_site_desk::Reversals;
-use td_site_messages::push_journal;
+use td_site_messages::{push_journal, push_own_gap};
 use td_site_opening::{ExitStatus, OUT_OF_MEMORY, complain, find_mark, is_lacking};
 
 /// A site that is kept in the file of its journal.
@@ -38,6 +38,7 @@ impl Host<'_> {
     pub(crate) fn report_journal<R: Replica>(self, site: &R) -> Result<bool, AllocError> {
         let mut found = String::new(self.rt.alloc());
         push_journal(&mut found, Some(self.journal), self.notes.found(), site)?;
+        push_own_gap(&mut found, site)?;
         let mut faults = Device::new(self.rt.stderr());
         complain(&mut faults, found.as_str());
         let mark = self.find_mark()?;
