@@ -30,6 +30,7 @@ TESTS = {
     "sockets": "programs that meet over loopback, and peers that damage, cut, flood and are silent",
     "servers": "servers that meet by themselves, are killed, and have hostile clients and peers",
     "schedules": "honest sites that are killed and cut off, none of which may ever differ",
+    "crashes": "journals as a disk may leave them where the power fails, at each moment of some runs",
     "requests": "requests to the server, one after another, with what each is answered",
     "memory": "runs without memory, and streams that fail",
     "anew": "random statements at sites that meet, beside a site that runs them all anew",

@@ -1,15 +1,17 @@
 //! Journals that are read and left as they are: nothing is locked, made or written.
 
 use crate::companions::name_beside;
-use crate::damage::{WINDOW, frames_end, have_frame_behind};
+use crate::framing::{frames_end, have_frame_behind};
 use crate::seen;
-use std::alloc::Global;
 use std::rt::Files;
 use td_frames::Version;
 use td_paths::{Unreadable, read_plain};
 
 /// The byte of a journal that has its version.
 const VERSION_AT: usize = 4;
+
+/// In so many bytes a complete frame is looked for.
+const SEARCHED: usize = 1_048_576;
 
 /// What a journal has, whoever has it open.
 #[derive(Drop)]
@@ -30,24 +32,24 @@ pub struct PassedOver {
 
 impl Contents {
     /// What stands behind so many bytes, if anything does.
-    pub fn behind(&self, alloc: Global, whole: u64) -> Option<PassedOver> {
+    pub fn behind(&self, whole: u64) -> Option<PassedOver> {
         let rest = self.bytes.get(usize::try_from(whole).ok()?..)?;
         if rest.is_empty() {
             return None;
         }
         Some(PassedOver {
             bytes: rest.len() as u64,
-            is_damage: have_frame_behind(alloc, rest.get(..WINDOW).unwrap_or(rest)),
+            is_damage: have_frame_behind(rest.get(..SEARCHED).unwrap_or(rest)),
         })
     }
 
     /// The byte from which on no whole frame stands, where the first one is to stand at this byte.
-    pub fn damaged_at(&self, alloc: Global, begin: usize) -> usize {
+    pub fn damaged_at(&self, begin: usize) -> usize {
         let version = match self.bytes.get(VERSION_AT) {
             Some(1) => Version::First,
             _ => Version::Second,
         };
-        frames_end(alloc, &self.bytes, begin, version)
+        frames_end(&self.bytes, begin, version)
     }
 }
 

@@ -2,13 +2,17 @@
 
 ghost use Rattle.std.specs.Prelude.{None};
 
+use crate::beside::Beside;
+use crate::checking::Step;
 use crate::companions::{make_new, name_beside, open_there, settle_folder, stands_under};
 use crate::file::FileJournal;
 use crate::notes::{Notes, Refusal};
 use crate::renewal::FileRenewal;
-use crate::seen;
+use crate::salvage::Salvage;
 use crate::seen::Seen;
+use crate::sums::Sums;
 use crate::synced::Synced;
+use crate::{seen, sums};
 use std::alloc::Global;
 use std::fs;
 use std::fs::{File, TryLockError};
@@ -22,17 +26,32 @@ use td_paths::plain_file;
 /// opened without being cut, and locked: another program that opens it is refused for as long as this one has it open.
 /// What is cut off it is kept in a file of this name followed by `.cut`, and up to which length it is on the disk
 /// stands in that followed by `.seen`. One that is made anew is written to the file of this name followed by `.new`,
-/// which then takes the other one's place.
+/// which then takes the other one's place. With sums, those of its parts stand in the file of this name followed by
+/// `.sums`: the journal is compared with them when it is opened, and what a power failure left of statements that were
+/// never answered is cut off.
 #[derive(Drop)]
 pub struct FileJournals<'a, R> {
     files: &'a R,
     notes: &'a Notes,
+    keeps_sums: bool,
 }
 
 impl<'a, R: Files<File = File>> FileJournals<'a, R> {
     /// The files of this system, which tell in the notes what they find.
     pub fn new(files: &'a R, notes: &'a Notes) -> Self {
-        FileJournals { files, notes }
+        FileJournals {
+            files,
+            notes,
+            keeps_sums: false,
+        }
+    }
+
+    /// The same, which keep sums of what they write.
+    pub fn with_sums(self) -> Self {
+        FileJournals {
+            keeps_sums: true,
+            ..self
+        }
     }
 
     // Opens a file that is there, or makes it, and tells whether it did. What is no file is not opened.
@@ -65,6 +84,64 @@ impl<'a, R: Files<File = File>> FileJournals<'a, R> {
         match settle_folder(self.files, name) {
             Ok(()) => Ok((file, is_new)),
             Err(Failed) => Err(Refusal::Other),
+        }
+    }
+
+    // Opens what is beside a journal; of a new one it is on the disk before the journal is written.
+    fn open_beside(&self, alloc: Global, name: &str, is_new: bool) -> Result<Beside, StoreError> {
+        let (Ok(of_seen), Ok(of_sums)) = (
+            name_beside(alloc, name, seen::ENDING),
+            name_beside(alloc, name, sums::ENDING),
+        ) else {
+            return Err(StoreError::OutOfMemory);
+        };
+        let Ok(seen) = Seen::open(self.files, of_seen.as_str()) else {
+            return self.refuse(Refusal::Beside);
+        };
+        if !self.keeps_sums {
+            return Ok(Beside { seen, sums: None });
+        }
+        let sums = Sums::open(self.files, of_sums.as_str()).ok();
+        let is_begun = !is_new || seen.length().is_some() || seen.settle(0).is_ok();
+        if is_begun && settle_folder(self.files, name).is_ok() {
+            Ok(Beside { seen, sums })
+        } else {
+            self.refuse(Refusal::Beside)
+        }
+    }
+
+    // Puts a journal of what is sound in the place of a damaged one.
+    fn put_sound(
+        &self,
+        alloc: Global,
+        name: &str,
+        journal: FileJournal<'a, R>,
+        sound: &Salvage,
+    ) -> Result<FileJournal<'a, R>, StoreError> {
+        let Ok(beside) = name_beside(alloc, name, ".new") else {
+            return Err(StoreError::OutOfMemory);
+        };
+        let Ok(file) = self.make_beside(name, beside.as_str()) else {
+            return self.refuse(Refusal::Unmade);
+        };
+        match journal.replace_by(beside.as_str(), file, sound) {
+            Ok(journal) => Ok(journal),
+            Err(refusal) => self.refuse(refusal),
+        }
+    }
+
+    // Judges a journal by its sums before it is read.
+    fn check(
+        &self,
+        alloc: Global,
+        name: &str,
+        mut journal: FileJournal<'a, R>,
+    ) -> Result<FileJournal<'a, R>, StoreError> {
+        match journal.check() {
+            Ok(Step::Read) => Ok(journal),
+            Ok(Step::Refuse(refusal)) => self.refuse(refusal),
+            Ok(Step::Salvage(sound)) => self.put_sound(alloc, name, journal, &sound),
+            Err(_) => Err(StoreError::OutOfMemory),
         }
     }
 
@@ -110,16 +187,16 @@ impl<'a, R: Files<File = File> + Drop> Journals for FileJournals<'a, R> {
     ghost fails = { λ _ _. Unit {0} };
 
     fn open(&self, alloc: Global, name: &str) -> Result<FileJournal<'a, R>, StoreError> {
-        let Ok(beside) = name_beside(alloc, name, seen::ENDING) else {
-            return Err(StoreError::OutOfMemory);
-        };
         let (file, is_new) = match self.open_locked(name) {
             Ok(opened) => opened,
             Err(refusal) => return self.refuse(refusal),
         };
-        match Seen::open(self.files, beside.as_str()) {
-            Ok(seen) => FileJournal::new(alloc, self.files, self.notes, name, file, is_new, seen),
-            Err(_) => self.refuse(Refusal::Beside),
+        let beside = self.open_beside(alloc, name, is_new)?;
+        let journal = FileJournal::new(alloc, self.files, self.notes, name, file, is_new, beside)?;
+        if self.keeps_sums {
+            self.check(alloc, name, journal)
+        } else {
+            Ok(journal)
         }
     }
 

@@ -1,6 +1,6 @@
 //! What files tell of journals beside the answers of calls.
 
-use crate::found::Found;
+use crate::found::{Damage, Found};
 use std::cell::Cell;
 use std::io::ErrorKind;
 use td_paths::Unreadable;
@@ -24,8 +24,10 @@ pub enum Refusal {
     Beside,
     /// What is behind its whole statements cannot be kept in a file beside it.
     Unkept,
-    /// It is of the first version, and cannot be made anew beside itself.
+    /// It is of the first version, or is salvaged, and cannot be made anew beside itself.
     Unmade,
+    /// Bytes of it were changed since they were written.
+    Damaged(Damage),
     /// The system says no more.
     Other,
 }
@@ -72,6 +74,7 @@ pub struct Notes {
     refusal: Cell<Option<Refusal>>,
     failure: Cell<Option<SyncFailure>>,
     lets_go: Cell<bool>,
+    salvages: Cell<bool>,
 }
 
 impl Notes {
@@ -82,6 +85,7 @@ impl Notes {
             refusal: Cell::new(None),
             failure: Cell::new(None),
             lets_go: Cell::new(false),
+            salvages: Cell::new(false),
         }
     }
 
@@ -110,6 +114,16 @@ impl Notes {
     /// Whether the journals are to go on from what they have.
     pub(crate) fn is_let_go(&self) -> bool {
         self.lets_go.get()
+    }
+
+    /// Has a journal that was damaged made anew of what is sound.
+    pub fn salvage(&self) {
+        self.salvages.set(true);
+    }
+
+    /// Whether a journal that was damaged is to be made anew.
+    pub(crate) fn is_salvaging(&self) -> bool {
+        self.salvages.get()
     }
 
     /// Notes what was found of a journal.

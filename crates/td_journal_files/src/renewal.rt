@@ -4,12 +4,17 @@ ghost use Rattle.std.specs.Prelude.{None};
 
 use crate::companions::settle_folder;
 use crate::file::FileJournal;
+use crate::framing::{header_length, site_of};
 use crate::notes::Notes;
 use crate::synced::Synced;
 use std::fs;
 use std::fs::File;
+use std::os::unix::fs::FileExt;
 use std::rt::Files;
 use td_io::{Device, Failed, Sink};
+
+/// The bytes of a header in front of its script.
+const HEADER_HEAD: usize = 11;
 
 /// A file beside a journal's, open and locked, with nothing in it at first. What is written to it is known to no
 /// contract.
@@ -62,7 +67,12 @@ impl<'a, R: Files<File = File>> FileRenewal<'a, R> {
         journal: FileJournal<'a, R>,
     ) -> Result<Device<Synced<'a, R>>, Failed> {
         let length = self.rename()?;
-        let mut seen = journal.into_seen();
+        // (it has all that the other one had)
+        let noted = match self.notes.found() {
+            Some(found) if found.is_short() => found.seen,
+            _ => None,
+        };
+        let (mut beside, mut window, waiting) = journal.into_beside();
         let FileRenewal {
             files,
             notes,
@@ -71,9 +81,27 @@ impl<'a, R: Files<File = File>> FileRenewal<'a, R> {
             file,
             writer: _,
         } = self;
-        let noted = seen.length();
-        seen.go_on(length, noted);
-        Ok(Device::new(Synced::new(files, notes, name, file, Some(seen), length)))
+        let mut head = [0; HEADER_HEAD];
+        if file.read_exact_at(&mut head, 0).is_err() {
+            return Err(Failed);
+        }
+        if let Some(sums) = &mut beside.sums {
+            sums.keep_lines(0, 0);
+        }
+        let header = header_length(&head).unwrap_or(0) as u64;
+        if beside
+            .go_on(&file, header, length, noted, &mut window)
+            .is_err()
+        {
+            return Err(Failed);
+        }
+        let keeps_sums = beside.sums.is_some();
+        let writer = Synced::new(files, notes, name, file, Some(beside), length);
+        if keeps_sums {
+            Ok(Device::new(writer.with_sums(site_of(&head), waiting)))
+        } else {
+            Ok(Device::new(writer))
+        }
     }
 }
 

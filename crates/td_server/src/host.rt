@@ -10,8 +10,11 @@ use td_journal_files::{Notes, Synced};
 use td_paths::Unreadable;
 use td_replica::Replica;
 use td_site_desk::Reversals;
-use td_site_messages::{push_journal, push_own_gap};
+use td_site_messages::{push_journal, push_own_gap, push_start_alarms};
 use td_site_opening::{ExitStatus, OUT_OF_MEMORY, complain, find_mark, is_lacking};
+
+/// How an alarm is ended.
+const ALARM_HINT: &str = ", and the button on the page ends them";
 
 /// A site that is kept in the file of its journal.
 pub(crate) type KeptSite<'a, R> = Keeper<R, Device<Synced<'a, HostRuntime>>>;
@@ -47,6 +50,14 @@ impl Host<'_> {
             None => None,
         };
         Ok(is_lacking(self.rt, &self.options.site, self.notes, mark, &mut faults))
+    }
+
+    /// Reports the alarms that nobody has acknowledged.
+    pub(crate) fn report_alarms(self, alarms: &Alarms) -> Result<(), AllocError> {
+        let mut found = String::new(self.rt.alloc());
+        push_start_alarms(&mut found, alarms, self.options.site.site, ALARM_HINT)?;
+        complain(&mut Device::new(self.rt.stderr()), found.as_str());
+        Ok(())
     }
 
     /// The name of the file that is there until a rebuilt site has met another one, if it is there.

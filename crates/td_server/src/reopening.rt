@@ -62,7 +62,7 @@ impl<'a> Host<'a> {
         let Ok(site) = open_new::<R>(alloc, &options, self.script) else {
             return None;
         };
-        let journals = FileJournals::new(self.rt, self.notes);
+        let journals = FileJournals::new(self.rt, self.notes).with_sums();
         let mut meter = Meter::new(self.rt);
         match keep_journal(alloc, &journals, self.journal, site, &mut meter) {
             Ok(kept) => Some(kept),

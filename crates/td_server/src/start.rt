@@ -36,6 +36,7 @@ impl<'a> Host<'a> {
     ) -> Result<SiteDesk<'a, R, HostRuntime>, AllocError> {
         let alloc = self.rt.alloc();
         let is_lacking = self.report_journal(&site)?;
+        self.report_alarms(&alarms)?;
         let peers = Peers {
             addresses: self.options.calls.clone()?,
         };
@@ -109,7 +110,7 @@ impl<'a> Host<'a> {
         requires { IsNew (R.seen site) }
     {
         let mut meter = Meter::new(self.rt);
-        let journals = FileJournals::new(self.rt, self.notes);
+        let journals = FileJournals::new(self.rt, self.notes).with_sums();
         match keep_journal(self.rt.alloc(), &journals, self.journal, site, &mut meter) {
             Ok(site) => self.serve_kept(site, meter),
             Err(StoreError::OutOfMemory) => report_memory(self.rt),
@@ -132,6 +133,9 @@ fn start_named<R: Opens + Changes + Catalogued + Drop>(
         return report_fault(rt, StartFault::Journal { name, error });
     }
     let notes = Notes::new();
+    if options.site.salvages {
+        notes.salvage();
+    }
     let host = Host {
         rt,
         options,

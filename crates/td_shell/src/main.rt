@@ -98,7 +98,7 @@ fn converse<'a>(
     let mut run: Run<'_, Process<'a>> = Run {
         alloc,
         host: rt,
-        store: &FileJournals::new(rt, notes),
+        store: &FileJournals::new(rt, notes).with_sums(),
         notes,
         network: &mut TcpLinks::new(rt),
         meter: &mut Meter::new(rt),

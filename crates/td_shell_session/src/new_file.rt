@@ -6,6 +6,7 @@ use std::io::{ErrorKind, Write};
 use std::os::unix::fs::OpenOptionsExt;
 use std::rt::Files;
 use std::{fs, io};
+use td_paths::sync_folder;
 
 /// The rights of a file that is made: its owner alone reads and writes it.
 const OWN: u32 = 0o600;
@@ -74,8 +75,13 @@ fn write_by<H: Files<File = File>>(
     };
     if written.is_err() {
         let _removed = fs::remove_file(host, part);
+        return written;
     }
-    written
+    // (else the file may be under no name if the power fails)
+    match sync_folder(host, name) {
+        Ok(()) => Ok(()),
+        Err(_) => Err(NotWritten::Failed),
+    }
 }
 
 /// Writes the bytes to a file that is not there yet, not even as a link: first beside it, and then under its name.

@@ -310,6 +310,9 @@ fn start_keeping<P: Platform>(
     requires { IsNew (P.Site.seen site) }
 {
     let name = journal.name;
+    if options.site.salvages {
+        run.notes.salvage();
+    }
     match keep_journal(run.alloc, run.store, name, site, run.meter) {
         Ok(site) => begin(run, options, site, Origin::Kept(name), after),
         Err(StoreError::OutOfMemory) => end(Err(SessionEnd::OutOfMemory), run.faults),

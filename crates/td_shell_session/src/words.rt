@@ -31,7 +31,8 @@ fn read_only_flag<'a>(alloc: Global) -> Result<Arg<'a>, AllocError> {
         .requires_arg("journal")?
         .conflicts_with("new")?
         .conflicts_with("forget")?
-        .conflicts_with("rebuild")
+        .conflicts_with("rebuild")?
+        .conflicts_with("salvage")
 }
 
 // The option of meetings with statements that no journal keeps; it excludes --journal and --read-only, which needs one.

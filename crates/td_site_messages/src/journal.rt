@@ -2,7 +2,7 @@
 
 use crate::wording::push_count;
 use std::alloc::AllocError;
-use td_journal_files::{Contents, Cut, Found, PassedOver, SyncFailure};
+use td_journal_files::{Checked, Contents, Cut, Damage, Found, PassedOver, Salvaged, SyncFailure};
 use td_replica::Replica;
 use td_stamps::Entry;
 
@@ -64,6 +64,80 @@ fn push_cut(out: &mut String, name: &str, found: &Found, cut: &Cut) -> Result<()
     push_name_of_cut(out, name, cut.number)
 }
 
+/// Appends how many statements can be read where a journal is damaged, and which.
+pub fn push_readable(out: &mut String, damage: &Damage) -> Result<(), AllocError> {
+    let (Some(first), Some(last)) = (damage.first, damage.last) else {
+        return out.push_str("where no statement can be read");
+    };
+    out.push_str("where ")?;
+    push_count(out, damage.statements as usize, "statement")?;
+    let clock = first.clock;
+    let site = first.site;
+    write!(out, " can be read, {clock}.{site}")?;
+    if first == last {
+        return Ok(());
+    }
+    let clock = last.clock;
+    let site = last.site;
+    write!(out, " to {clock}.{site}")
+}
+
+// Appends how a journal was salvaged.
+fn push_salvaged(out: &mut String, name: &str, salvaged: &Salvaged) -> Result<(), AllocError> {
+    let from = salvaged.damage.from;
+    let end = salvaged.damage.end;
+    write!(
+        out,
+        "journal {name}: SALVAGED. It was damaged between byte {from} and byte {end}, "
+    )?;
+    push_readable(out, &salvaged.damage)?;
+    let kept = salvaged.kept;
+    write!(
+        out,
+        "; these are left out, and {kept} are kept. The damaged journal is in "
+    )?;
+    if salvaged.number == 1 {
+        return writeln!(out, "{name}.damaged");
+    }
+    let number = salvaged.number;
+    writeln!(out, "{name}.damaged.{number}")
+}
+
+// Appends what `--salvage` did, if the words have it.
+fn push_salvage(out: &mut String, name: &str, found: &Found) -> Result<(), AllocError> {
+    match &found.salvaged {
+        Some(salvaged) => push_salvaged(out, name, salvaged),
+        None if found.is_salvaging => {
+            writeln!(
+                out,
+                "journal {name}: it is not damaged, and --salvage changed nothing"
+            )
+        }
+        None => Ok(()),
+    }
+}
+
+// Appends how much of a journal was not compared with its sums.
+fn push_checked(out: &mut String, name: &str, checked: Checked) -> Result<(), AllocError> {
+    match checked {
+        Checked::NotKept | Checked::Everything => Ok(()),
+        Checked::Unusable => writeln!(
+            out,
+            "journal {name}: not checked, since {name}.sums is no file that this user may read and write; move that away"
+        ),
+        Checked::UpTo(0) => {
+            writeln!(
+                out,
+                "journal {name}: not checked, since it had no sums; it has them now"
+            )
+        }
+        Checked::UpTo(byte) => writeln!(
+            out,
+            "journal {name}: checked up to byte {byte}; what is after that had no sums, and has them now"
+        ),
+    }
+}
+
 // Appends that a journal has less than was on the disk once.
 fn push_short(out: &mut String, name: &str, seen: u64, whole: u64) -> Result<(), AllocError> {
     writeln!(
@@ -83,6 +157,8 @@ fn push_found<R: Replica>(
         writeln!(out, "journal {name}: begun, empty")?;
     } else {
         push_held(out, name, "", site)?;
+        push_salvage(out, name, found)?;
+        push_checked(out, name, found.checked)?;
     }
     if let Some(cut) = &found.cut {
         push_cut(out, name, found, cut)?;
@@ -136,7 +212,7 @@ pub fn push_read_only_journal<R: Replica>(
     site: &R,
 ) -> Result<(), AllocError> {
     push_held(out, name, "read only, ", site)?;
-    if let Some(passed) = contents.behind(*out.allocator(), whole) {
+    if let Some(passed) = contents.behind(whole) {
         push_passed(out, name, whole, passed)?;
     }
     if let Some(seen) = contents.seen

@@ -45,7 +45,7 @@ pub use differing::{push_differing, push_not_taken};
 pub use digest::{HeldDigest, held_digests, push_digest, push_sum};
 pub use fault::{SiteFault, push_site_fault};
 pub use gaps::push_own_gap;
-pub use journal::{failure_words, push_journal, push_read_only_journal};
+pub use journal::{failure_words, push_journal, push_read_only_journal, push_readable};
 pub use meeting::{MeetingChanges, Snapshot};
 pub use outcomes::{push_log, push_outcome, push_raise, push_reason, push_refused, raise_meaning};
 pub use room::push_room;

@@ -87,6 +87,14 @@ fn rebuild_flag<'a>(alloc: Global) -> Result<Arg<'a>, AllocError> {
         .conflicts_with("forget")
 }
 
+fn salvage_flag<'a>(alloc: Global) -> Result<Arg<'a>, AllocError> {
+    let help = "Makes a damaged journal anew of what is sound, and keeps a copy of the damaged one";
+    flag(alloc, "salvage", help)
+        .requires_arg("journal")?
+        .conflicts_with("new")?
+        .conflicts_with("rebuild")
+}
+
 /// Adds the script, and the number and the limit of the site that it opens.
 pub fn with_site<'a>(
     alloc: Global,
@@ -109,5 +117,6 @@ pub fn with_journal<'a>(
         .arg(journal_option(alloc, demand))?
         .arg(new_flag(alloc)?)?
         .arg(forget_flag(alloc)?)?
-        .arg(rebuild_flag(alloc)?)
+        .arg(rebuild_flag(alloc)?)?
+        .arg(salvage_flag(alloc)?)
 }

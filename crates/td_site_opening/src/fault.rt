@@ -3,7 +3,7 @@
 use crate::alarms::push_no_alarms;
 use crate::journals::push_missing;
 use crate::rebuild::push_unmarked;
-use crate::refusal::{file_words, push_not_reopened};
+use crate::refusal::{push_not_reopened, push_refusal};
 use crate::script::NoScript;
 use crate::status::ExitStatus;
 use crate::unopened::{SCRIPT_MEMORY, push_unopened};
@@ -120,7 +120,7 @@ fn push_reason<H: Files + AllocGlobal + Clone + Drop>(
             )
         }
         JournalFault::IsMissing { can_begin } => push_missing(out, host, name, can_begin),
-        JournalFault::Refused(refusal) => out.push_str(file_words(refusal)),
+        JournalFault::Refused(refusal) => push_refusal(out, refusal),
         JournalFault::Unwritten(failure) => out.push_str(failure_words(Some(failure))),
         JournalFault::Unreadable(error) => out.push_str(error.words()),
         JournalFault::Unmarked => push_unmarked(out, name),

@@ -19,6 +19,8 @@ pub struct SiteOptions<'a> {
     pub is_rebuilt: bool,
     /// Whether it goes on with a journal that has less than it had once.
     pub forgets: bool,
+    /// Whether a journal that is damaged is made anew of what is sound.
+    pub salvages: bool,
     /// Whether the journal is only read, and left as it is.
     pub is_read_only: bool,
 }
@@ -43,6 +45,7 @@ pub fn site_options<'a>(matches: &ArgMatches<'a>) -> SiteOptions<'a> {
         is_new: matches.get_flag("new") || matches.get_flag("rebuild"),
         is_rebuilt: matches.get_flag("rebuild"),
         forgets: matches.get_flag("forget"),
+        salvages: matches.get_flag("salvage"),
         is_read_only: false,
     }
 }

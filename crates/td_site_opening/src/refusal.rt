@@ -2,8 +2,9 @@
 
 use std::alloc::AllocError;
 use td_journal::{JournalError, ReopenError};
-use td_journal_files::{Contents, Refusal};
+use td_journal_files::{Contents, Damage, Refusal};
 use td_replica::TakeError;
+use td_site_messages::push_readable;
 
 /// The byte of a journal that has its version.
 const VERSION_AT: usize = 4;
@@ -16,7 +17,11 @@ const SITE_END: usize = 7;
 /// From which byte on a journal has its script.
 const SCRIPT_AT: usize = 11;
 
-/// What is to be done with a journal that is damaged.
+/// What is to be done with a journal that has bytes which no program wrote there.
+const SALVAGE: &str =
+    "start it once with --salvage, which keeps a copy of it and makes it anew of all other statements";
+
+/// What is to be done with a journal that has statements which no program wrote there.
 const GOOD_COPY: &str = "take the last good copy of it";
 
 // The number of the site whose journal the bytes are.
@@ -45,10 +50,10 @@ fn line_of_difference(bytes: &[u8], script: &str) -> usize {
 // Appends from which byte on a journal of this script is damaged.
 fn push_damage(out: &mut String, contents: &Contents, script: &str) -> Result<(), AllocError> {
     let begin = SCRIPT_AT.saturating_add(script.len());
-    let at = contents.damaged_at(*out.allocator(), begin);
+    let at = contents.damaged_at(begin);
     write!(
         out,
-        "it is damaged at byte {at}, where no statement stands as it was written; {GOOD_COPY}"
+        "it is damaged at byte {at}, where no statement stands as it was written; {SALVAGE}"
     )
 }
 
@@ -108,8 +113,25 @@ fn push_not_taken(out: &mut String, error: TakeError, limit: usize) -> Result<()
     }
 }
 
-/// Why the file of a journal is not opened.
-pub(crate) fn file_words(refusal: Refusal) -> &'static str {
+// Appends where a journal was changed, and what is to be done.
+fn push_changed(out: &mut String, damage: &Damage) -> Result<(), AllocError> {
+    let from = damage.from;
+    let end = damage.end;
+    write!(out, "it is damaged between byte {from} and byte {end}, ")?;
+    push_readable(out, damage)?;
+    write!(out, "; {SALVAGE}")
+}
+
+/// Appends why the file of a journal is not opened, and what is to be done.
+pub(crate) fn push_refusal(out: &mut String, refusal: Refusal) -> Result<(), AllocError> {
+    match refusal {
+        Refusal::Damaged(damage) => push_changed(out, &damage),
+        refusal => out.push_str(file_words(refusal)),
+    }
+}
+
+// Why the file of a journal is not opened.
+fn file_words(refusal: Refusal) -> &'static str {
     match refusal {
         Refusal::NoFile(error) => error.words(),
         Refusal::NoFolder => "its folder is not there; make that, or give another prefix",
@@ -124,7 +146,8 @@ pub(crate) fn file_words(refusal: Refusal) -> &'static str {
         Refusal::Unkept =>
             "what is behind its whole statements cannot be kept beside it; make room, or mend the rights of its folder",
         Refusal::Unmade =>
-            "it is of version 1, and cannot be made anew beside itself; make room, mend the rights of its folder, or give the name of the file in place of that of a link",
+            "it is to be made anew, which cannot be done beside itself; make room, mend the rights of its folder, or give the name of the file in place of that of a link",
+        Refusal::Damaged(_) => "it is damaged",
         Refusal::Other => "the system refuses to open it, to lock it or to hand it to the disk",
     }
 }
