@@ -11,7 +11,9 @@ use td_paths::Unreadable;
 use td_replica::Replica;
 use td_site_desk::Reversals;
 use td_site_messages::{push_journal, push_own_gap, push_start_alarms};
-use td_site_opening::{ExitStatus, OUT_OF_MEMORY, complain, find_mark, is_lacking};
+use td_site_opening::{
+    ExitStatus, OUT_OF_MEMORY, complain, find_mark, is_lacking, report_left_out,
+};
 
 /// How an alarm is ended.
 const ALARM_HINT: &str = ", and the button on the page ends them";
@@ -44,6 +46,7 @@ impl Host<'_> {
         push_own_gap(&mut found, site)?;
         let mut faults = Device::new(self.rt.stderr());
         complain(&mut faults, found.as_str());
+        report_left_out(self.rt, self.journal, self.notes.found(), &mut faults)?;
         let mark = self.find_mark()?;
         let mark = match &mark {
             Some(mark) => Some(mark.as_str()),

@@ -23,7 +23,8 @@ use td_site_messages::{
 };
 use td_site_opening::{
     ExitStatus, JournalFault, OUT_OF_MEMORY, ScriptFile, SiteJournal, StartFault, complain,
-    is_lacking, journal_name, open_new, prepare_journal, report, report_unkept, take_contents,
+    is_lacking, journal_name, open_new, prepare_journal, report, report_left_out, report_unkept,
+    take_contents,
 };
 
 // What is said at a terminal, since the program edits no lines by itself.
@@ -113,7 +114,10 @@ fn report_found<R: Replica, P: Platform>(
     push_room(&mut found, site)?;
     push_start_alarms(&mut found, alarms, site.site(), ALARM_HINT)?;
     complain(run.faults, found.as_str());
-    Ok(())
+    match origin {
+        Origin::Kept(name) => report_left_out(run.host, name, run.notes.found(), run.faults),
+        _ => Ok(()),
+    }
 }
 
 // Whether the site may be changed. The mark is the name of a file that is there until a rebuilt site has met another one.
