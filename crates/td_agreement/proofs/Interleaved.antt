@@ -17,7 +17,7 @@ use Rattle.td_stamps.specs.declared.errors.CheckError.{CheckError}
 use Rattle.td_stamps.proofs.EntryLemmas.{same-is}
 use Rattle.td_stamps.proofs.Gaps.{after_completes}
 use Rattle.td_stamps.proofs.Merges.{NoClash-fewer, has-append_left, has-append_right, merged}
-use Rattle.td_stamps.proofs.SetLemmas.{added, adds_up, first_holds, fits, rest_holds}
+use Rattle.td_stamps.proofs.SetLemmas.{AddsUp, added, adds_up, first_holds, fits, rest_holds}
 use Rattle.td_frames.specs.Reading.{most_entries}
 use Rattle.td_frames.specs.declared.greeting.Greeting.{Greeting}
 use Rattle.td_replica.specs.Calls.{TakesBatch}
@@ -32,11 +32,11 @@ use Rattle.td_agreement.specs.Interleaved.{Arrives, InterleavedMeetingKeepsAll, 
 
 -- ---- sets
 
-has-filter : (p : Entry → Bool) (z : Entry) (xs : List Entry) → has (filter p xs) z ≡ (p z && has xs z)
+pub has-filter : (p : Entry → Bool) (z : Entry) (xs : List Entry) → has (filter p xs) z ≡ (p z && has xs z)
 has-filter p z xs = any-filter_same (same z) p (p z) (λ x is. ap p (sym (same-is z x is))) xs
 
 -- what is sent is of the set, and the vector lacks it
-sent_is : (v : VersionVector) (xs : List Entry) (z : Entry) → has (after_vector v xs) z ≡ true → (lacks v z ≡ true) × (has xs z ≡ true)
+pub sent_is : (v : VersionVector) (xs : List Entry) (z : Entry) → has (after_vector v xs) z ≡ true → (lacks v z ≡ true) × (has xs z ≡ true)
 sent_is v xs z sent = let both = sym (has-filter (lacks v) z xs) ∙ sent in (first_holds (lacks v z) (has xs z) both, rest_holds (lacks v z) (has xs z) both)
 
 is_sent : (v : VersionVector) (xs : List Entry) (z : Entry) → lacks v z ≡ true → has xs z ≡ true → has (after_vector v xs) z ≡ true
@@ -57,11 +57,13 @@ held_or_sent a b v e set ranges free is held =
     ∙ or_right (has a e) (has b e) held
 
 -- a site that took a batch has what it held, and the batch
-has_both : (s : Seen) (batch : List Entry) (t : Taken) (after : Seen) (e : Entry) → is_set s.entries ≡ true → TakesBatch s batch t after → (has s.entries e || has batch e) ≡ true → has after.entries e ≡ true
-has_both s batch t after e set takes held =
+pub joined : (s : Seen) (batch : List Entry) (t : Taken) (after : Seen) → is_set s.entries ≡ true → TakesBatch s batch t after → AddsUp s.entries s.entries batch
+joined s batch t after set takes =
     let fit = fits s.entries s.limit batch (subst (λ (r : Result ℕ CheckError). IsOk r) (sym takes.fresh) refl) in
-    let up = adds_up s.entries s.entries batch (λ p. refl) set fit.clear in
-    ap (λ (u : Seen). has u.entries e) takes.union ∙ up.members (same e) ∙ held
+    adds_up s.entries s.entries batch (λ p. refl) set fit.clear
+
+pub took : (s : Seen) (batch : List Entry) (t : Taken) (after : Seen) (e : Entry) → is_set s.entries ≡ true → TakesBatch s batch t after → has after.entries e ≡ (has s.entries e || has batch e)
+took s batch t after e set takes = ap (λ (u : Seen). has u.entries e) takes.union ∙ (joined s batch t after set takes).members (same e)
 
 swapped : (a b : List Entry) → NoClash (a ++ b) → NoClash (b ++ a)
 swapped a b free = NoClash-fewer (b ++ a) (a ++ b) (λ z h. list_any-append (same z) a b ∙ or_comm (has a z) (has b z) ∙ sym (list_any-append (same z) b a) ∙ h) free
@@ -71,10 +73,10 @@ module _ (s s' t t' after other : Seen) (gains gives : Taken) (v w : VersionVect
     (is_v : IsVector s.entries v) (is_w : IsVector t.entries w) (still_s : StillHolds s s') (still_t : StillHolds t t')
     (takes : TakesBatch s' (after_vector v t.entries) gains after) (taken : TakesBatch t' (after_vector w after.entries) gives other) (e : Entry) where
   first_has : (has s'.entries e || has (after_vector v t.entries) e) ≡ true → has after.entries e ≡ true
-  first_has = has_both s' (after_vector v t.entries) gains after e sound_s'.set takes
+  first_has held = took s' (after_vector v t.entries) gains after e sound_s'.set takes ∙ held
 
   second_has : (has t'.entries e || has (after_vector w after.entries) e) ≡ true → has other.entries e ≡ true
-  second_has = has_both t' (after_vector w after.entries) gives other e sound_t'.set taken
+  second_has held = took t' (after_vector w after.entries) gives other e sound_t'.set taken ∙ held
 
   own_first : has s.entries e ≡ true → has after.entries e ≡ true
   own_first own = first_has (or_left (has s'.entries e) (has (after_vector v t.entries) e) (still_s e own))

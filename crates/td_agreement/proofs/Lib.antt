@@ -3,3 +3,4 @@ pub mod Fronts
 pub mod Meanings
 pub mod Agreeing
 pub mod Interleaved
+pub mod Progress

@@ -1,3 +1,4 @@
 -- The definitions of the crate.
 pub mod Laws
 pub mod Interleaved
+pub mod Progress

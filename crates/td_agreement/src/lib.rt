@@ -1,9 +1,10 @@
 //! Laws of what sites answer and hold: those of one script that hold the same set answer alike, an exchange leaves one
-//! set, and a meeting keeps what either held, with other calls between its steps.
+//! set, a meeting keeps what either held, with other calls between its steps, and meetings that are cut bring a site,
+//! one by one, all that it lacked.
 //!
 //! Begin with `specs/Laws.antt`: sites that hold the same set answer alike.
 //!
-//! Definitions to trust, in `specs/`: Interleaved, Laws.
+//! Definitions to trust, in `specs/`: Interleaved, Laws, Progress.
 #![tactic(auto)]
 
 pub mod laws;

@@ -1,0 +1,5 @@
+-- What the proofs of the crate share.
+pub mod Joining
+pub mod Turns
+pub mod Among
+pub mod Converging
