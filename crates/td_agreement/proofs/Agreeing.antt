@@ -19,7 +19,7 @@ use Rattle.td_agreement.specs.Laws.{AnswersAgree, ExchangeIsMerge, PastAnswersAg
 use Rattle.td_agreement.proofs.Fronts.{one_front}
 use Rattle.td_agreement.proofs.Meanings.{asks_one, tells_one}
 
-one_set : (s t : Seen) → HoldTheSame s t → s.entries ≡ t.entries
+pub one_set : (s t : Seen) → HoldTheSame s t → s.entries ≡ t.entries
 one_set s t same = same_set s.entries t.entries same.one_set same.other_set same.members
 
 pub answers_agree : AnswersAgree

@@ -43,7 +43,7 @@ abbrev told_as : Stop → Raise
 told_as Stop.Untyped = raise.Overflow
 told_as (Stop.Error e) = e
 
-one_raise : (e f : Raise) → stop_of e ≡ stop_of f → e ≡ f
+pub one_raise : (e f : Raise) → stop_of e ≡ stop_of f → e ≡ f
 one_raise e f h = ap told_as h
 
 one_asked : (m : Result Datum Stop) (r q : Answer Datum) → SaysValue r m → SaysValue q m → r ≡ q
@@ -59,7 +59,7 @@ one_answer m (answer.Raised e) (answer.Value s) p q = ok_err s (stop_of e) (sym 
 one_answer m (answer.Raised e) (answer.Raised f) p q = ap answer.Raised (one_raise e f (err_same {A = RowsData} (stop_of e) (stop_of f) (sym p ∙ q)))
 
 -- ---- a text is one query, of one tree
-one_query : (text : List ℕ) (a b : Expr) → IsQuery text a → IsQuery text b → a ≡ b
+pub one_query : (text : List ℕ) (a b : Expr) → IsQuery text a → IsQuery text b → a ≡ b
 one_query text a b p q = some_same a b (sym ((reader_decides_queries text a).1 p) ∙ (reader_decides_queries text b).1 q)
 
 one_tree : (c : CatalogueData) (a : Expr) (x y : Expression) → IsExpression c no_tuple a x → IsExpression c no_tuple a y → x.tree ≡ y.tree

@@ -1,5 +1,5 @@
 -- What meetings along a tree leave.
-use Rattle.std.proofs.Common.{◌≡◌, inl, inr, ℕ, Bool, true, eqb, List, [], ◌∷◌, reverse, sym, subst}
+use Rattle.std.proofs.Common.{◌≡◌, inl, inr, ℕ, Bool, true, eqb, List, [], ◌∷◌, ◌++◌, reverse, sym, subst, ◌∙◌}
 use mathlib.Core.Bool.{false≢true}
 use Rattle.std.specs.List.{list_all, list_any}
 use Rattle.std.proofs.lemmas.Bool.{and_parts, or_cases, or_left, or_right}
@@ -7,10 +7,12 @@ use Rattle.std.proofs.lemmas.Bool.Decides.{same_from_decides}
 use Rattle.std.proofs.lemmas.List.{reverse-append}
 use Rattle.td_stamps.specs.Sets.{has}
 use Rattle.td_stamps.specs.declared.entry.Entry.{Entry}
+use Rattle.td_replica.specs.Seen.{IsSound}
 use Rattle.td_convergence.specs.Trees.{Numbered, MeetInTurn, none_met, next_met, LeavesFirst, NoneClash, on_tree, is_among}
-use Rattle.td_convergence.specs.Laws.{Convergence}
+use Rattle.td_convergence.specs.Laws.{ConvergedHoldTheSame, Convergence}
 use Rattle.td_convergence.proofs.Among.{all_reverse, among_cases, both_among, first_among, tree_cases, tree_has_pairs}
 use Rattle.td_convergence.proofs.Joining.{AllHeld, Joined, joined}
+use Rattle.td_convergence.proofs.Scripts.{one_script, scripts_stay}
 use Rattle.td_convergence.proofs.Turns.{kept, split}
 
 -- ---- to the root and back
@@ -103,13 +105,18 @@ nothing_else ns (p ∷ ps) w u pairs held free (next_met told rest) e any =
     let parts = and_parts (both_among ns p) (list_all (both_among ns) ps) pairs in
     any_before w _ p ns one parts.0 e (nothing_else ns ps _ u parts.1 one.held one.free rest e any)
 
--- ---- the law
+-- ---- the laws
+
+all_held : (w : Numbered) → ((n : ℕ) → IsSound (w n)) → AllHeld w
+all_held w sound n = record { set = (sound n).set; ranges = (sound n).ranges }
 
 pub converges : Convergence
-converges root tree w u order sound free met n among e =
+converges root tree w u along n among e =
     let ns = on_tree root tree in
-    let held : AllHeld w = λ m. record { set = (sound m).set; ranges = (sound m).ranges } in
-    let (v, front, back) = split tree (reverse tree) w u met in
+    let order = along.order in
+    let free = along.free in
+    let held = all_held w along.sound in
+    let (v, front, back) = split tree (reverse tree) w u along.met in
     let half = kept tree w v held free front in
     let pairs = tree_has_pairs root tree order in
     let pairs_back = all_reverse (both_among ns) tree pairs in
@@ -121,3 +128,17 @@ converges root tree w u order sound free met n among e =
     let at_root = comes_up root tree w v order held free front m is_one e had in
     goes_down root tree v u order half.held half.free back n among e at_root in
     same_from_decides (has (u n).entries e) (any_has w ns e) (was, comes) (λ any. any, λ any. any)
+
+pub hold_the_same : ConvergedHoldTheSame
+hold_the_same root tree w u along one other is_one is_other =
+    let left = kept (tree ++ reverse tree) w u (all_held w along.sound) along.free along.met in
+    let (v, front, back) = split tree (reverse tree) w u along.met in
+    let script = λ (n : ℕ) (among : is_among n (on_tree root tree) ≡ true).
+    scripts_stay (tree ++ reverse tree) w u along.met n ∙ one_script root tree w v along.order front n among in
+    let all = converges root tree w u along in
+    record {
+      script = script one is_one ∙ sym (script other is_other);
+      one_set = (left.held one).set;
+      other_set = (left.held other).set;
+      members = λ e. all one is_one e ∙ sym (all other is_other e);
+    }

@@ -22,11 +22,11 @@ pub record IsHeld (es : List Entry) : Type 0 where
   pub ranges : list_all in_range es ≡ true
 
 -- a site that holds what either of two held
-record HoldsBoth (s t after : Seen) : Type 0 where
-  held : IsHeld after.entries
-  members : (e : Entry) → has after.entries e ≡ (has s.entries e || has t.entries e)
+pub record HoldsBoth (s t after : Seen) : Type 0 where
+  pub held : IsHeld after.entries
+  pub members : (e : Entry) → has after.entries e ≡ (has s.entries e || has t.entries e)
 
-holds_both : (s t after : Seen) → IsHeld s.entries → IsHeld t.entries → NoClash (s.entries ++ t.entries)
+pub holds_both : (s t after : Seen) → IsHeld s.entries → IsHeld t.entries → NoClash (s.entries ++ t.entries)
     → after.entries ≡ union s.entries t.entries → HoldsBoth s t after
 holds_both s t after held_s held_t free is =
     let held : IsHeld (union s.entries t.entries) = record {
@@ -60,7 +60,7 @@ abbrev pub AllHeld : Numbered → Type 0
 AllHeld w = (n : ℕ) → IsHeld (w n).entries
 
 -- the first of a pair, the second, or another number
-two_cases : (w : Numbered) (p : ℕ × ℕ) (after other : Seen) (n : ℕ) (P : Seen → Type 0)
+pub two_cases : (w : Numbered) (p : ℕ × ℕ) (after other : Seen) (n : ℕ) (P : Seen → Type 0)
     → (n ≡ p.0 → P after) → (n ≡ p.1 → P other) → (eqb n p.0 ≡ false → eqb n p.1 ≡ false → P (w n))
     → P (with_two w p after other n)
 two_cases w p after other n P first second neither =

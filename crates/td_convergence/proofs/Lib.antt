@@ -2,4 +2,6 @@
 pub mod Joining
 pub mod Turns
 pub mod Among
+pub mod Scripts
 pub mod Converging
+pub mod Room

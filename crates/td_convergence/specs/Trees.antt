@@ -1,10 +1,10 @@
 -- Sites by their numbers, meetings of them one after another, and the trees along which they meet.
-use Rattle.std.specs.Prelude.{◌≡◌, ℕ, Bool, true, false, ◌==◌, if◌then◌else◌, List, [], ◌∷◌, map}
+use Rattle.std.specs.Prelude.{◌≡◌, ℕ, Bool, true, false, ◌==◌, if◌then◌else◌, List, [], ◌∷◌, ◌++◌, map, reverse}
 use Rattle.std.specs.List.{list_any}
 use Rattle.td_stamps.specs.Entries.{clash}
 use Rattle.td_stamps.specs.Sets.{has}
 use Rattle.td_stamps.specs.declared.entry.Entry.{Entry}
-use Rattle.td_replica.specs.Seen.{Seen}
+use Rattle.td_replica.specs.Seen.{Seen, IsSound}
 use Rattle.td_meeting.specs.Meetings.{MeetsWhole}
 use Rattle.td_meeting.specs.declared.meeting.Met.{Met}
 
@@ -39,3 +39,10 @@ LeavesFirst root (p ∷ ps) = (is_among p.1 (on_tree root ps) ≡ true) × Leave
 abbrev pub NoneClash : Numbered → Type 0
 NoneClash w =
     (n m : ℕ) (e f : Entry) → has (w n).entries e ≡ true → has (w m).entries f ≡ true → clash e f ≡ false
+
+-- sound sites without a clash meet along a tree: from its leaves to its root, and then in the reverse order
+pub record MeetAlong (root : ℕ) (tree : List (ℕ × ℕ)) (w u : Numbered) : Type 0 where
+  pub order : LeavesFirst root tree
+  pub sound : (n : ℕ) → IsSound (w n)
+  pub free : NoneClash w
+  pub met : MeetInTurn w (tree ++ reverse tree) u
