@@ -1,14 +1,15 @@
 -- A site that goes on with the journal from which it came back, put together from what its parts tell.
 use Rattle.std.proofs.Common.{◌≡◌, ◌≢◌, ◌<◌, ◌≤◌, inl, inr, ℕ, zero, suc, true, true≢false, List, Option, Result, Ok, Err, MatchResult, refl, sym, subst, ◌∙◌, arith}
 use Rattle.td_io.specs.Counted.{counted}
-use Rattle.td_io.specs.Views.{Input, Output}
+use Rattle.td_io.specs.Views.{Input, Output, output_of}
+use Rattle.td_io.specs.declared.streams.Sink as sink
 use Rattle.td_replica.specs.Seen.{Seen}
 use Rattle.td_frames.specs.declared.version.Version.{Version}
 use Rattle.td_frames.specs.declared.version.Version.TheVariants.{Second}
 use Rattle.td_journal.specs.ForProofs.Behind.{BeginsNone, IsBehind}
 use Rattle.td_journal.specs.Keeping.{Starts, StartsNot}
 use Rattle.td_journal.specs.Reopening.{Retakes, RetakesNot}
-use Rattle.td_journal.specs.Stores.{GoesOn, GoesOnNot, IsCutTo, IsGoneOnWith, IsMadeAnew, IsRefused, KeepsNot}
+use Rattle.td_journal.specs.Stores.{GoesOn, IsCutTo, IsGoneOnWith, IsMadeAnew, IsRefused, KeepsNot}
 use Rattle.td_journal.specs.declared.keeper.StartError.{StartError}
 use Rattle.td_journal.specs.declared.keeper.StartError.TheVariants.{Broken, WriteFault}
 use Rattle.td_journal.specs.declared.reopening.ReopenError.{ReopenError}
@@ -29,8 +30,9 @@ pub not_written : (s : Seen) (e : StartError) (cut w : Output) → s.live ≡ tr
 not_written s Broken cut w live h = absurd (true≢false (sym live ∙ h.0))
 not_written s WriteFault cut w live h = h
 
-pub not_started : (n : ℕ) (s : Seen) (e : StartError) (cut w : Output) → n ≤ 0 → s.live ≡ true → StartsNot s e cut w → BeginsNone n s cut
-not_started n s e cut w none live h = (omega (arith, none), w, not_written s e cut w live h)
+pub not_started : {W : Type 0} (writer : sink.Ghosts W) (n : ℕ) (s : Seen) (e : StartError) (cut w : W)
+    → n ≤ 0 → s.live ≡ true → StartsNot s e (output_of writer cut) (output_of writer w) → BeginsNone writer n s cut
+not_started writer n s e cut w none live h = (omega (arith, none), w, not_written s e (output_of writer cut) (output_of writer w) live h)
 
 -- a keeper behind what was kept goes on with it
 pub gone_on : (n : ℕ) (kept : Option (List ℕ)) (s after : Seen) (cut w : Output) → after ≡ s → IsCutTo n kept cut.held → IsBehind n s cut w → IsGoneOnWith Second n kept after w
@@ -53,19 +55,9 @@ goes_on kept old new s after w n v begun retakes gone = record {
 pub anew : (kept : Option (List ℕ)) (s after : Seen) (empty begun w : Output) → after ≡ s → IsCutTo 0 kept empty.held → Starts s empty begun → w.held ≡ begun.held → IsMadeAnew kept after w
 anew kept s after empty begun w same is starts held = (empty, is, begun, subst (λ (t : Seen). Starts t empty begun) (sym same) starts, held)
 
-goes_on_not : (Fails : StoreError → Type 0) (v : Version) (n : ℕ) (kept : Option (List ℕ)) (old new : Input) (s mid : Seen) (e : StoreError)
-    → old.left ≡ kept → Retakes s old new mid n v → GoesOnNot Fails v n kept mid e → KeepsNot Fails kept s e
-goes_on_not Fails v n kept old new s mid OutOfMemory begun retakes h = inl h
-goes_on_not Fails v n kept old new s mid JournalFile begun retakes (inl fails) = inl fails
-goes_on_not Fails v n kept old new s mid JournalFile begun retakes (inr not) = inr (inr (record {
-  failures = old.failures;
-  read = new;
-  after = mid;
-  whole = n;
-  version = v;
-  reopens = subst (λ (l : Option (List ℕ)). Retakes s (record { left = l; failures = old.failures }) new mid n v) begun retakes;
-  begins_not = not;
-}))
+goes_on_not : (Fails : StoreError → Type 0) (kept : Option (List ℕ)) (s : Seen) (e : StoreError) → Fails e → KeepsNot Fails kept s e
+goes_on_not Fails kept s OutOfMemory h = inl h
+goes_on_not Fails kept s JournalFile h = inl h
 
 refused_by : (kept : Option (List ℕ)) (old new : Input) (s : Seen) (error : ReopenError) → old.left ≡ kept → RetakesNot s old new error → IsRefused kept s error
 refused_by kept old new s error begun retakes = record {
@@ -79,9 +71,9 @@ by_bytes : (Fails : StoreError → Type 0) (kept : Option (List ℕ)) (old new :
     → error ≢ reopen_error.OutOfMemory → RetakesNot s old new error → IsRefused kept s error → KeepsNot Fails kept s JournalFile
 by_bytes Fails kept old new s reopen_error.OutOfMemory unread had retakes is = absurd (had refl)
 by_bytes Fails kept old new s reopen_error.ReadFault unread had retakes is = inl (unread retakes.3)
-by_bytes Fails kept old new s (reopen_error.Open e) unread had retakes is = inr (inl (reopen_error.Open e, (had, λ h. cc), is))
-by_bytes Fails kept old new s (reopen_error.Refused e) unread had retakes is = inr (inl (reopen_error.Refused e, (had, λ h. cc), is))
-by_bytes Fails kept old new s (reopen_error.Take e) unread had retakes is = inr (inl (reopen_error.Take e, (had, λ h. cc), is))
+by_bytes Fails kept old new s (reopen_error.Open e) unread had retakes is = inr (reopen_error.Open e, (had, λ h. cc), is)
+by_bytes Fails kept old new s (reopen_error.Refused e) unread had retakes is = inr (reopen_error.Refused e, (had, λ h. cc), is)
+by_bytes Fails kept old new s (reopen_error.Take e) unread had retakes is = inr (reopen_error.Take e, (had, λ h. cc), is)
 
 pub not_kept : (Fails : StoreError → Type 0) (kept : Option (List ℕ)) (old new : Input) (s : Seen) (error : ReopenError) (e : StoreError)
     → old.left ≡ kept → RetakesNot s old new error → (new.failures ≡ counted old.failures → Fails JournalFile)
@@ -94,21 +86,16 @@ not_kept Fails kept old new s error JournalFile begun retakes unread wanting ref
 -- ---- of what a keeper is made of
 
 module _ {K : Type 0} (seen : K → Seen) (out : K → Output) (Same : K → Type 0) (Fails : StoreError → Type 0) (n : ℕ) where
-  pub went_on : (kept : Option (List ℕ)) (s : Seen) (cut : Output) (r : Result K StoreError) → IsCutTo n kept cut.held → ((k : K) → Same k → seen k ≡ s)
-      → MatchResult r (λ k. IsBehind n s cut (out k) × Same k) (λ e. BeginsNone n s cut × (e ≡ JournalFile))
-      → MatchResult r (λ k. IsGoneOnWith Second n kept (seen k) (out k) × Same k) (λ e. GoesOnNot Fails Second n kept s e)
-  went_on kept s cut (Ok k) is same (behind, all) = (gone_on n kept s (seen k) cut (out k) (same k all) is behind, all)
-  went_on kept s cut (Err e) is same (none, at) = subst (λ (x : StoreError). GoesOnNot Fails Second n kept s x) (sym at) (inr (record {
-    begins = inr none.0;
-    cut = cut;
-    empty = subst (λ (m : ℕ). IsCutTo m kept cut.held) none.0 is;
-    written = none.1;
-    fails = none.2;
-  }))
+  pub went_on : {W : Type 0} (writer : sink.Ghosts W) (kept : Option (List ℕ)) (s : Seen) (cut : W) (r : Result K StoreError) → IsCutTo n kept (writer.held cut)
+      → ((after : W) → writer.faults after ≡ counted (writer.faults cut) → Fails JournalFile) → ((k : K) → Same k → seen k ≡ s)
+      → MatchResult r (λ k. IsBehind n s (output_of writer cut) (out k) × Same k) (λ e. BeginsNone writer n s cut × (e ≡ JournalFile))
+      → MatchResult r (λ k. IsGoneOnWith Second n kept (seen k) (out k) × Same k) (λ e. Fails e)
+  went_on writer kept s cut (Ok k) is unwritten same (behind, all) = (gone_on n kept s (seen k) (output_of writer cut) (out k) (same k all) is behind, all)
+  went_on writer kept s cut (Err e) is unwritten same (none, at) = subst (λ (x : StoreError). Fails x) (sym at) (unwritten none.1 none.2.1.1)
 
   pub kept_on : (v : Version) (kept : Option (List ℕ)) (old new : Input) (s mid : Seen) (r : Result K StoreError) → old.left ≡ kept → Retakes s old new mid n v
-      → ((k : K) → Same k → seen k ≡ mid) → MatchResult r (λ k. IsGoneOnWith v n kept (seen k) (out k) × Same k) (λ e. GoesOnNot Fails v n kept mid e)
+      → ((k : K) → Same k → seen k ≡ mid) → MatchResult r (λ k. IsGoneOnWith v n kept (seen k) (out k) × Same k) (λ e. Fails e)
       → MatchResult r (λ k. GoesOn kept s (seen k) (out k)) (λ e. KeepsNot Fails kept s e)
   kept_on v kept old new s mid (Ok k) begun retakes same (gone, is) =
       goes_on kept old new s (seen k) (out k) n v begun (subst (λ (t : Seen). Retakes s old new t n v) (sym (same k is)) retakes) gone
-  kept_on v kept old new s mid (Err e) begun retakes same not = goes_on_not Fails v n kept old new s mid e begun retakes not
+  kept_on v kept old new s mid (Err e) begun retakes same not = goes_on_not Fails kept s e not

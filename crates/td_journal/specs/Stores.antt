@@ -6,9 +6,8 @@ use Rattle.td_replica.specs.Seen.{Seen, IsSound}
 use Rattle.td_frames.specs.declared.version.Version.{Version}
 use Rattle.td_frames.specs.declared.version.Version.TheVariants.{First, Second}
 use Rattle.td_journal.specs.Keepers.{IsJournal, IsJournalOf}
-use Rattle.td_journal.specs.Keeping.{Starts, StartsNot}
+use Rattle.td_journal.specs.Keeping.{Starts}
 use Rattle.td_journal.specs.Reopening.{Retakes, RetakesNot}
-use Rattle.td_journal.specs.declared.keeper.StartError.TheVariants.{WriteFault}
 use Rattle.td_journal.specs.declared.reopening.ReopenError.{ReopenError}
 use Rattle.td_journal.specs.declared.reopening.ReopenError.TheVariants as reopen_error
 use Rattle.td_journal.specs.declared.stores.StoreError.{StoreError}
@@ -47,39 +46,15 @@ pub record IsRefused (kept : Option (List ℕ)) (s : Seen) (error : ReopenError)
   pub read : Input
   pub refuses : RetakesNot s (record { left = kept; failures = failures }) read error
 
--- A site came back from what stands whole of a journal, and its own was to be begun: with nothing of what stood there,
--- where that is nothing whole, or beside it, where it is of the first version. That was not written.
-pub record BeginsNot (version : Version) (whole : ℕ) (kept : Option (List ℕ)) (after : Seen) : Type 0 where
-  pub begins : (version ≡ First) ⊎ (whole ≡ 0)
-  pub cut : Output
-  pub empty : IsCutTo 0 kept cut.held
-  pub written : Output
-  pub fails : StartsNot after WriteFault cut written
-
--- why a site that came back does not go on
-abbrev pub GoesOnNot : (StoreError → Type 0) → Version → ℕ → Option (List ℕ) → Seen → StoreError → Type 0
-GoesOnNot Fails version whole kept after OutOfMemory = Fails OutOfMemory
-GoesOnNot Fails version whole kept after JournalFile = Fails JournalFile ⊎ BeginsNot version whole kept after
-
--- a new site came back from what its journal says, and its own was not begun
-pub record IsNotBegun (kept : Option (List ℕ)) (s : Seen) : Type 0 where
-  pub failures : ℕ
-  pub read : Input
-  pub after : Seen
-  pub whole : ℕ
-  pub version : Version
-  pub reopens : Retakes s (record { left = kept; failures = failures }) read after whole version
-  pub begins_not : BeginsNot version whole kept after
-
 -- neither memory nor the reader was wanting
 abbrev pub IsOfBytes : ReopenError → Type 0
 IsOfBytes error = (error ≢ reopen_error.OutOfMemory) × (error ≢ reopen_error.ReadFault)
 
--- Why a site does not go on with its journal: that could not be opened, read, cut or replaced, its bytes are refused,
--- or what it was to begin was not written; or there was no memory to open it or one beside, or for what was read.
+-- Why a site does not go on with its journal: that could not be opened, read, cut, replaced or begun, or its bytes are
+-- refused; or there was no memory to open it or one beside, or for what was read.
 abbrev pub KeepsNot : (StoreError → Type 0) → Option (List ℕ) → Seen → StoreError → Type 0
 KeepsNot Fails kept s OutOfMemory = Fails OutOfMemory ⊎ IsRefused kept s reopen_error.OutOfMemory
-KeepsNot Fails kept s JournalFile = Fails JournalFile ⊎ (((error : ReopenError) × IsOfBytes error × IsRefused kept s error) ⊎ IsNotBegun kept s)
+KeepsNot Fails kept s JournalFile = Fails JournalFile ⊎ ((error : ReopenError) × IsOfBytes error × IsRefused kept s error)
 
 -- A new site that came back from a front of the journal of another one, of its script and number, and of whatever
 -- version, writes behind the journal of what it holds: so its journal is that again, as after a start.

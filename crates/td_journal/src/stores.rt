@@ -6,8 +6,8 @@ ghost use Rattle.td_io.specs.Counted.{counted};
 ghost use Rattle.td_io.specs.Views.{output_of};
 ghost use Rattle.td_journal.specs.Reopening.{IsNew};
 ghost use Rattle.td_journal.specs.ForProofs.Behind.{BeginsNone, IsBehind};
-ghost use Rattle.td_journal.specs.Stores.{GoesOn, GoesOnNot, IsCutTo, IsGoneOnWith, IsMadeAnew, KeepsNot};
-ghost use Rattle.td_frames.specs.declared.version.Version.TheVariants.{First, Second};
+ghost use Rattle.td_journal.specs.Stores.{GoesOn, IsCutTo, IsGoneOnWith, IsMadeAnew, KeepsNot};
+ghost use Rattle.td_frames.specs.declared.version.Version.TheVariants.{Second};
 ghost use Rattle.td_journal.specs.declared.reopening.ReopenError.TheVariants as reopen_error;
 ghost use Rattle.td_journal.specs.declared.stores.StoreError.TheVariants as store_error;
 
@@ -45,8 +45,8 @@ pub trait Journals {
     /// What the journal of a name has, where that is known.
     ghost kept: { Self → List ℕ → Option (List ℕ) };
 
-    /// A journal could not be opened, read, cut or replaced, for this cause. Only these calls and a failure that was
-    /// counted tell this of any journals, so what a caller tells by it says that one of them did.
+    /// A journal could not be opened, read, cut, replaced or begun, for this cause. Only these calls and a failure that
+    /// was counted tell this of any journals, so what a caller tells by it says that one of them did.
     ghost fails: { Self → StoreError → Type 0 };
 
     /// Opens the journal of this name, which has nothing where it is new. Nobody else opens it until it is let go.
@@ -59,7 +59,10 @@ pub trait Journals {
 
     /// Keeps so many bytes of the journal and drops those behind them: what is written then stands behind these.
     fn cut(&self, journal: Self::Journal, whole: u64) -> Result<Self::Writer, Failed>
-        ensures { MatchResult result (λ w. IsCutTo whole (Self.Journal.beside journal) (Self.Writer.held w)) (λ _. fails self.now store_error.JournalFile) };
+        ensures held { MatchResult result (λ w. IsCutTo whole (Self.Journal.beside journal) (Self.Writer.held w)) (λ _. fails self.now store_error.JournalFile) }
+        ensures writes { MatchResult result
+            (λ w. (after : Self.Writer) → Self.Writer.faults after ≡ counted (Self.Writer.faults w) → fails self.now store_error.JournalFile)
+            (λ _. Unit {0}) };
 
     /// Begins a journal beside that of this name, with nothing in it, of which so many bytes are to go over into it.
     /// Nobody else opens it until it is let go.
@@ -70,7 +73,10 @@ pub trait Journals {
         journal: &mut Self::Journal,
         whole: u64,
     ) -> Result<Self::Renewal, StoreError>
-        ensures { MatchResult result (λ n. IsCutTo 0 (kept self.now name.now) (Self.Renewal.held n)) (λ e. fails self.now e) };
+        ensures held { MatchResult result (λ n. IsCutTo 0 (kept self.now name.now) (Self.Renewal.held n)) (λ e. fails self.now e) }
+        ensures writes { MatchResult result
+            (λ n. (after : Self.Renewal) → Self.Renewal.faults after ≡ counted (Self.Renewal.faults n) → fails self.now store_error.JournalFile)
+            (λ _. Unit {0}) };
 
     /// Puts a journal that was written beside another one, and handed on, in that one's place, which is let go behind
     /// that: what is written then stands behind the new one. At an error the old one stands as it did.
@@ -103,7 +109,7 @@ fn keeper_behind<R: Opens + Drop, W: Sink + Drop>(
     ensures { MatchResult result
         (λ k. IsBehind whole (R.seen replica) (output_of W.Sink writer) (output_of W.Sink k.writer)
         × ((k.replica ≡ replica) × (k.is_open ≡ true)))
-        (λ e. BeginsNone whole (R.seen replica) (output_of W.Sink writer) × (e ≡ store_error.JournalFile)) }
+        (λ e. BeginsNone W.Sink whole (R.seen replica) writer × (e ≡ store_error.JournalFile)) }
 {
     if whole > 0 {
         return Ok(Keeper::over(replica, writer));
@@ -124,7 +130,7 @@ fn go_on<R: Opens + Drop, J: Journals>(
     ensures { MatchResult result
         (λ k. IsGoneOnWith Second whole (J.Journal.beside journal) (R.seen k.replica) (output_of J.Writer.Sink k.writer)
         × ((k.replica ≡ replica) × (k.is_open ≡ true)))
-        (λ e. GoesOnNot (J.fails journals.now) Second whole (J.Journal.beside journal) (R.seen replica) e) }
+        (λ e. J.fails journals.now e) }
 {
     match journals.cut(journal, whole) {
         Ok(writer) => keeper_behind(whole, replica, writer),
@@ -144,7 +150,7 @@ fn make_anew<R: Opens + Drop, J: Journals>(
     ensures { MatchResult result
         (λ k. IsMadeAnew (J.kept journals.now name.now) (R.seen k.replica) (output_of J.Writer.Sink k.writer)
         × ((k.replica ≡ replica) × (k.is_open ≡ true)))
-        (λ e. GoesOnNot (J.fails journals.now) First whole (J.kept journals.now name.now) (R.seen replica) e) }
+        (λ e. J.fails journals.now e) }
 {
     let mut renewal = match journals.renew(alloc, name, &mut journal, whole) {
         Ok(renewal) => renewal,
@@ -172,7 +178,7 @@ fn keep_reopened<R: Opens + Drop, J: Journals>(
     ensures { MatchResult result
         (λ k. IsGoneOnWith reopened.version reopened.whole (J.kept journals.now name.now) (R.seen k.replica) (output_of J.Writer.Sink k.writer)
         × ((k.replica ≡ reopened.replica) × (k.is_open ≡ true)))
-        (λ e. GoesOnNot (J.fails journals.now) reopened.version reopened.whole (J.kept journals.now name.now) (R.seen reopened.replica) e) }
+        (λ e. J.fails journals.now e) }
 {
     let Reopened {
         replica,
