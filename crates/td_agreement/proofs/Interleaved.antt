@@ -109,22 +109,22 @@ module _ (s s' t t' after other : Seen) (gains gives : Taken) (v w : VersionVect
 
 -- ---- bytes
 
-wrote : (old new : Option (List ℕ)) (before bytes said : List ℕ) → old ≡ Some before → new ≡ Some (before ++ bytes) → Appends old new said → bytes ≡ said
+pub wrote : (old new : Option (List ℕ)) (before bytes said : List ℕ) → old ≡ Some before → new ≡ Some (before ++ bytes) → Appends old new said → bytes ≡ said
 wrote old new before bytes said was is appends =
     append_cancel_left before bytes said (subst (λ (n : Option (List ℕ)). Appends (Some before) n said) is (subst (λ (o : Option (List ℕ)). Appends o new said) was appends))
 
 -- what a step says that it wrote comes to the other link
-arrived : (old new other : LinkData) (said : List ℕ) (a : Arrives old new other) → Appends old.held new.held said → other.left ≡ Some (said ++ a.behind)
+pub arrived : (old new other : LinkData) (said : List ℕ) (a : Arrives old new other) → Appends old.held new.held said → other.left ≡ Some (said ++ a.behind)
 arrived old new other said a appends = a.comes ∙ ap (λ (l : List ℕ). Some (l ++ a.behind)) (wrote old.held new.held a.before a.bytes said a.was_held a.is_held appends)
 
 -- a greeting that came is that of the site
-heard : (s t : Seen) (own more : List ℕ) (greets : Greets s own) (g : Greeting) (rest : Option (List ℕ)) → Hears t (Some (own ++ more)) rest g → (g ≡ greeting_of s greets.vector) × (rest ≡ Some more)
+pub heard : (s t : Seen) (own more : List ℕ) (greets : Greets s own) (g : Greeting) (rest : Option (List ℕ)) → Hears t (Some (own ++ more)) rest g → (g ≡ greeting_of s greets.vector) × (rest ≡ Some more)
 heard s t own more greets g None hears = absurd hears.greeting.consumed
 heard s t own more greets g (Some rest) hears =
     let one = reads_same (own ++ more) rest more g (greeting_of s greets.vector) hears.greeting (greets_read s own more greets) in
     (ap (λ (p : Greeting × List ℕ). p.0) one, ap (λ (p : Greeting × List ℕ). Some p.1) one)
 
-few : (s : Seen) (v : VersionVector) (limit : ℕ) → is_limit limit ≡ true → length s.entries ≤ limit → length (after_vector v s.entries) ≤ most_entries
+pub few : (s : Seen) (v : VersionVector) (limit : ℕ) → is_limit limit ≡ true → length s.entries ≤ limit → length (after_vector v s.entries) ≤ most_entries
 few s v limit is within =
     let parts = length-filter_both (lacks v) (λ x. not (lacks v x)) (λ x. refl) s.entries in
     let most : limit ≤ 100000 = within_most limit is in

@@ -4,3 +4,4 @@ pub mod Meanings
 pub mod Agreeing
 pub mod Interleaved
 pub mod Progress
+pub mod CutStreams

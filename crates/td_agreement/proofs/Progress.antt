@@ -20,8 +20,8 @@ use Rattle.td_stamps.proofs.Merges.{has-append_left, head_has, rest_lacks, same_
 use Rattle.td_stamps.proofs.SetLemmas.{first_holds, or_false, rest_holds}
 use Rattle.td_replica.specs.Seen.{Seen}
 use Rattle.td_replica.specs.declared.calls.Taken.{Taken}
-use Rattle.td_agreement.specs.Progress.{CutMeetingKeeps, CutMeetingsEnd, CutMeetingsProgress, TakesOften, TakesSome}
-use Rattle.td_agreement.specs.Progress.{lacking, next_came, none_came}
+use Rattle.td_agreement.specs.Progress.{CutMeetingBringsNew, CutMeetingKeeps, CutMeetingsEnd, CutMeetingsProgress}
+use Rattle.td_agreement.specs.Progress.{TakesOften, TakesSome, lacking, next_came, none_came}
 use Rattle.td_agreement.proofs.Interleaved.{has-filter, joined, sent_is, took}
 
 -- ---- filters of a set
@@ -192,6 +192,36 @@ cut_meeting_keeps keep s t gains after sound some e =
         | inr new ↦ inr (came_is keep some.vector some.count t.entries e new)
       ],
     )
+
+-- what comes is lacked by the vector
+came_lacked : (keep : Entry → Bool) (v : VersionVector) (n : ℕ) (xs : List Entry) (z : Entry)
+    → has (came keep v n xs) z ≡ true → lacks v z ≡ true
+came_lacked keep v n xs z here =
+    let sent = after_vector v xs in
+    let of_front = has-append_left (came keep v n xs) (drop n (filter keep sent)) z here in
+    let of_sent = subst (λ (l : List Entry). has l z ≡ true) (take-append-drop n (filter keep sent)) of_front in
+    let both = sym (has-filter keep z sent) ∙ of_sent in
+    (sent_is v xs z (rest_holds (keep z) (has sent z) both)).0
+
+pub filter_all : (xs : List Entry) → filter (λ z. true) xs ≡ xs
+filter_all [] = refl
+filter_all (x ∷ xs) = ap (λ (l : List Entry). x ∷ l) (filter_all xs)
+
+pub cut_meeting_brings_new : CutMeetingBringsNew
+cut_meeting_brings_new keep s t gains after sound sound_t some counts =
+    let batch = came keep some.vector some.count t.entries in
+    let set_batch = set-came keep some.vector some.count t.entries sound_t.set in
+    let fresh = counted s.entries s.limit batch gains.fresh some.takes.fresh in
+    let alike = filter_alike (unseen s.entries) (λ z. true) batch new in
+    sym (unseen_count s.entries batch set_batch ∙ fresh) ∙ ap length (alike ∙ filter_all batch)
+  where
+    new : (z : Entry) → has (came keep some.vector some.count t.entries) z ≡ true → unseen s.entries z ≡ true
+    new z here = elim (has s.entries z) as (λ b. has s.entries z ≡ b → not b ≡ true) [
+      | true ↦ λ held.
+          let lacked = came_lacked keep some.vector some.count t.entries z here in
+          absurd (false≢true (sym (counts z held) ∙ lacked))
+      | false ↦ λ _. refl
+    ] refl
 
 progress : (keep : Entry → Bool) (t s after : Seen) (n : ℕ) → is_set s.entries ≡ true → is_set t.entries ≡ true
     → TakesOften keep t n s after → lacking keep after t + n ≤ lacking keep s t

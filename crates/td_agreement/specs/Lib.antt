@@ -2,3 +2,4 @@
 pub mod Laws
 pub mod Interleaved
 pub mod Progress
+pub mod CutStreams

@@ -1,9 +1,9 @@
 -- Cut meetings: the link fails while a site is sent entries, and the site takes those that came whole.
-use Rattle.std.specs.Prelude.{◌≡◌, ◌≤◌, ◌⊎◌, ℕ, suc, ◌+◌, Bool, true, take}
+use Rattle.std.specs.Prelude.{◌≡◌, ◌≤◌, ◌⊎◌, ℕ, suc, ◌+◌, Bool, true, false, length, take}
 use Rattle.std.specs.List.{filter}
 use Rattle.td_stamps.specs.Checks.{fresh_count}
 use Rattle.td_stamps.specs.Sets.{has}
-use Rattle.td_stamps.specs.Vectors.{IsVector, VersionVector, after_vector}
+use Rattle.td_stamps.specs.Vectors.{IsVector, VersionVector, after_vector, lacks}
 use Rattle.td_stamps.specs.declared.entry.Entry.{Entry}
 use Rattle.td_replica.specs.Calls.{TakesBatch}
 use Rattle.td_replica.specs.Seen.{Seen, IsSound}
@@ -16,6 +16,10 @@ pub record TakesSome (keep : Entry → Bool) (s t : Seen) (gains : Taken) (after
   pub is : IsVector s.entries vector
   pub count : ℕ
   pub takes : TakesBatch s (take count (filter keep (after_vector vector t.entries))) gains after
+
+-- the vector counts each entry that the site holds: none of them stands behind a gap
+abbrev pub CountsEach : VersionVector → Seen → Type 0
+CountsEach v s = (e : Entry) → has s.entries e ≡ true → lacks v e ≡ false
 
 -- so many cut meetings with a site that stays as it is, each of which brought something new
 pub data TakesOften (keep : Entry → Bool) (t : Seen) : ℕ → Seen → Seen → Type 0 where
@@ -33,6 +37,13 @@ CutMeetingKeeps =
     (keep : Entry → Bool) (s t : Seen) (gains : Taken) (after : Seen) → IsSound s → TakesSome keep s t gains after
     → (e : Entry) → (has s.entries e ≡ true → has after.entries e ≡ true)
     × (has after.entries e ≡ true → (has s.entries e ≡ true) ⊎ ((has t.entries e ≡ true) × (keep e ≡ true)))
+
+-- and where the site has no gap, each entry that comes is new
+abbrev pub CutMeetingBringsNew : Type 0
+CutMeetingBringsNew =
+    (keep : Entry → Bool) (s t : Seen) (gains : Taken) (after : Seen) → IsSound s → IsSound t
+    → (some : TakesSome keep s t gains after) → CountsEach some.vector s
+    → gains.fresh ≡ length (take some.count (filter keep (after_vector some.vector t.entries)))
 
 -- after n of them, each of which brings something new, the site lacks at least n fewer
 abbrev pub CutMeetingsProgress : Type 0
