@@ -124,15 +124,16 @@ pub cut_stream_is_front : CutStreamIsFront
 cut_stream_is_front v most xs es bytes rest ending within framed split read =
     let whole = read_whole v most xs bytes rest within framed split in
     let of_whole = subst (λ (l : List Entry). IsFrontOf (entries_at v most bytes).0 l) (ap (λ (r : Entries). r.0) whole)
-    (read_front v most bytes rest) in
-    (subst (λ (l : List Entry). IsFrontOf l xs) (ap (λ (r : Entries). r.0) read) of_whole,
-    λ some. ends_short v most xs es bytes rest whole ending some read,
-    λ n part le is.
-        let few = length-take-le n xs le in
-        let all = read_all v most (take n xs) part (omega (arith, few, le, within)) (framed_front v n xs framed) in
-        let same = ap (λ (b : List ℕ). length (entries_at v most b).0) (sym is) in
-        let count = ap (λ (r : Entries). length r.0) read in
-        omega (arith, few, all, same, count))
+    (read_front v most bytes rest) in (
+      subst (λ (l : List Entry). IsFrontOf l xs) (ap (λ (r : Entries). r.0) read) of_whole,
+      λ some. ends_short v most xs es bytes rest whole ending some read,
+      λ n part le is.
+          let few = length-take-le n xs le in
+          let all = read_all v most (take n xs) part (omega (arith, few, le, within)) (framed_front v n xs framed) in
+          let same = ap (λ (b : List ℕ). length (entries_at v most b).0) (sym is) in
+          let count = ap (λ (r : Entries). length r.0) read in
+          omega (arith, few, all, same, count),
+    )
 
 -- ---- what a site takes of a cut stream
 
@@ -182,13 +183,16 @@ module _ (keep : Entry → Bool) (s t : Seen) (v : VersionVector) (within : leng
       let whole = read_whole Second most_entries sent m.bytes more within framed (all ∙ split) in
       let (read, (gains, takes, same)) = taken_short s e fresh (Some came) rest old new after m sent more whole in
       let front = cut_stream_is_front Second most_entries sent m.entries m.bytes more (Err short) within framed
-      (all ∙ split) read in
-      (gains, record {
-        vector = v;
-        is = is;
-        count = length m.entries;
-        takes = subst (λ (batch : List Entry). TakesBatch s batch gains after) front.0 takes;
-      }, same)
+      (all ∙ split) read in (
+        gains,
+        record {
+          vector = v;
+          is = is;
+          count = length m.entries;
+          takes = subst (λ (batch : List Entry). TakesBatch s batch gains after) front.0 takes;
+        },
+        same,
+      )
 
 -- a longer front has what a front has
 front_has : (n k : ℕ) (xs : List Entry) (x : Entry) → length (take n xs) ≤ k → has (take n xs) x ≡ true

@@ -9,10 +9,12 @@ pub trait Server: Service + Meets {
     fn answered(&self) -> u64;
 
     /// Takes note of the time, in milliseconds since the loop began. It is called before each turn.
-    fn pass_time(&mut self, now: u64);
+    fn pass_time(&mut self, now: u64)
+        ensures { Self.keeps self.old self.new };
 
     /// Reads its console once: that can be read without a wait. The answer is whether more may come.
-    fn read_console(&mut self) -> bool;
+    fn read_console(&mut self) -> bool
+        ensures { Self.keeps self.old self.new };
 
     /// Whether the program is to end.
     fn is_stopping(&self) -> bool;

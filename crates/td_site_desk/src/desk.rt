@@ -127,7 +127,9 @@ impl<'a, R: Changes + Catalogued + Drop, H: Runtime + AllocGlobal> SiteDesk<'a, 
     }
 
     /// Takes note of the time, in milliseconds since the event loop began.
-    pub(crate) fn pass_time(&mut self, now: u64) {
+    pub(crate) fn pass_time(&mut self, now: u64)
+        ensures { R.seen self.new.site ≡ R.seen self.old.site }
+    {
         self.now = now;
     }
 

@@ -53,7 +53,9 @@ impl<R: Changes + Catalogued + Drop, H: Runtime + AllocGlobal> SiteDesk<'_, R, H
     }
 
     /// Raises an alarm for each of these sites, which a meeting with the site at this address left out.
-    pub(crate) fn raise_alarms(&mut self, sites: &[u16], address: IpAddr) {
+    pub(crate) fn raise_alarms(&mut self, sites: &[u16], address: IpAddr)
+        ensures { R.seen self.new.site ≡ R.seen self.old.site }
+    {
         match self.alarms.raise(sites, address) {
             Ok(0) => {}
             Ok(count) => self.keep_alarms(count, address),

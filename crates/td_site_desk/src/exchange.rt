@@ -1,5 +1,8 @@
 //! Meetings of the site.
 
+ghost use Rattle.std.specs.Prelude.{◌≡◌};
+ghost use Rattle.td_site_desk.specs.Meetings.{Finishes, Settles, step_after, step_after_error};
+
 use crate::desk::SiteDesk;
 use crate::received::TakingStep;
 use crate::scopes::{GreetedPeer, MeetingState, lacked_by};
@@ -33,6 +36,26 @@ fn is_refused(error: MeetingError) -> bool {
     matches!(error, MeetingError::OtherScript | MeetingError::SameSite)
 }
 
+// What follows a step that failed: what was written is sent where there was no room for more.
+fn step_after_error(error: MeetingError) -> StepResult
+    ensures { result ≡ step_after_error error }
+{
+    match error {
+        MeetingError::WriteFault { .. } => StepResult::Part,
+        _ => StepResult::Stop,
+    }
+}
+
+// What follows a step that took entries, or failed.
+fn step_after(received: Result<Received, MeetingError>) -> StepResult
+    ensures { result ≡ step_after received }
+{
+    match received {
+        Ok(_) => StepResult::Part,
+        Err(error) => step_after_error(error),
+    }
+}
+
 impl<R: Changes + Catalogued + Drop, H: Runtime + AllocGlobal> SiteDesk<'_, R, H> {
     /// Writes the list of reversed statements to its file, and tells whoever watches if that fails.
     pub(crate) fn save_reversals(&self) {
@@ -41,13 +64,12 @@ impl<R: Changes + Catalogued + Drop, H: Runtime + AllocGlobal> SiteDesk<'_, R, H
         }
     }
 
-    // Notes why a step failed; what was written is sent where there was no room for more.
-    fn fail(&mut self, meeting: usize, error: MeetingError) -> StepResult {
+    // Notes why a step failed, and returns what follows.
+    fn fail(&mut self, meeting: usize, error: MeetingError) -> StepResult
+        ensures { R.seen self.new.site ≡ R.seen self.old.site }
+    {
         self.note_error(meeting, error);
-        match error {
-            MeetingError::WriteFault { .. } => StepResult::Part,
-            _ => StepResult::Stop,
-        }
+        step_after_error(error)
     }
 
     // Writes the greeting of the site for a peer that does not compare.
@@ -63,7 +85,9 @@ impl<R: Changes + Catalogued + Drop, H: Runtime + AllocGlobal> SiteDesk<'_, R, H
     }
 
     // Begins a meeting with a peer that does not compare.
-    fn open_plain(&mut self, meeting: usize, out: &mut Outbox) -> Option<FirstMessage> {
+    fn open_plain(&mut self, meeting: usize, out: &mut Outbox) -> Option<FirstMessage>
+        ensures { R.seen self.new.site ≡ R.seen self.old.site }
+    {
         match self.greet(out) {
             Ok(scope) => {
                 self.scopes.keep(meeting, MeetingState::InScope(scope));
@@ -82,7 +106,9 @@ impl<R: Changes + Catalogued + Drop, H: Runtime + AllocGlobal> SiteDesk<'_, R, H
         meeting: usize,
         peer: SocketAddr,
         out: &mut Outbox,
-    ) -> Option<FirstMessage> {
+    ) -> Option<FirstMessage>
+        ensures { R.seen self.new.site ≡ R.seen self.old.site }
+    {
         if self.refuses_meeting(meeting) {
             return None;
         }
@@ -102,7 +128,9 @@ impl<R: Changes + Catalogued + Drop, H: Runtime + AllocGlobal> SiteDesk<'_, R, H
     }
 
     // Answers a question of another version by the letters and the version that are known here.
-    fn refuse_version(&mut self, meeting: usize, out: &mut Outbox) -> StepResult {
+    fn refuse_version(&mut self, meeting: usize, out: &mut Outbox) -> StepResult
+        ensures { R.seen self.new.site ≡ R.seen self.old.site }
+    {
         let _ = out.write_all(b"JTDC\x01");
         let words = "fault version: the other site compares by another version";
         self.note_words(meeting, MeetingOutcome::Failed, words);
@@ -115,7 +143,9 @@ impl<R: Changes + Catalogued + Drop, H: Runtime + AllocGlobal> SiteDesk<'_, R, H
         meeting: usize,
         question: &[u8],
         out: &mut Outbox,
-    ) -> StepResult {
+    ) -> StepResult
+        ensures { R.seen self.new.site ≡ R.seen self.old.site }
+    {
         if self.refuses_meeting(meeting) {
             return StepResult::Stop;
         }
@@ -132,7 +162,9 @@ impl<R: Changes + Catalogued + Drop, H: Runtime + AllocGlobal> SiteDesk<'_, R, H
     }
 
     // Notes that a peer closed the connection in place of an answer, and so may not compare.
-    fn note_unanswered(&mut self, meeting: usize, peer: SocketAddr) {
+    fn note_unanswered(&mut self, meeting: usize, peer: SocketAddr)
+        ensures { R.seen self.new.site ≡ R.seen self.old.site }
+    {
         if self.scopes.note_unanswered(peer, self.now) {
             let words =
                 "the other site closed the connection in place of digests: it is called without them now";
@@ -151,7 +183,9 @@ impl<R: Changes + Catalogued + Drop, H: Runtime + AllocGlobal> SiteDesk<'_, R, H
         peer: SocketAddr,
         answer: &[u8],
         out: &mut Outbox,
-    ) -> StepResult {
+    ) -> StepResult
+        ensures { R.seen self.new.site ≡ R.seen self.old.site }
+    {
         if self.refuses_meeting(meeting) {
             return StepResult::Stop;
         }
@@ -173,7 +207,9 @@ impl<R: Changes + Catalogued + Drop, H: Runtime + AllocGlobal> SiteDesk<'_, R, H
     }
 
     /// Reads which sites differ by the peer that asked.
-    pub(crate) fn add_differences(&mut self, meeting: usize, differences: &[u8]) -> StepResult {
+    pub(crate) fn add_differences(&mut self, meeting: usize, differences: &[u8]) -> StepResult
+        ensures { R.seen self.new.site ≡ R.seen self.old.site }
+    {
         let Some(MeetingState::InScope(mut scope)) = self.scopes.take(meeting) else {
             return StepResult::Stop;
         };
@@ -187,7 +223,9 @@ impl<R: Changes + Catalogued + Drop, H: Runtime + AllocGlobal> SiteDesk<'_, R, H
     }
 
     // The scope of all that is held; none where memory runs out or the journal has failed, which is noted.
-    fn scope_of_all(&mut self, meeting: usize) -> Option<MeetingScope> {
+    fn scope_of_all(&mut self, meeting: usize) -> Option<MeetingScope>
+        ensures { R.seen self.new.site ≡ R.seen self.old.site }
+    {
         match whole_scope(self.alloc, &self.site) {
             Ok(scope) => Some(scope),
             Err(error) => {
@@ -199,7 +237,9 @@ impl<R: Changes + Catalogued + Drop, H: Runtime + AllocGlobal> SiteDesk<'_, R, H
 
     // The scope of a meeting: that of all that is held, where the peer did not compare. None if the meeting does not go
     // on, which is noted.
-    fn take_scope(&mut self, meeting: usize) -> Option<MeetingScope> {
+    fn take_scope(&mut self, meeting: usize) -> Option<MeetingScope>
+        ensures { R.seen self.new.site ≡ R.seen self.old.site }
+    {
         if self.refuses_meeting(meeting) {
             return None;
         }
@@ -211,19 +251,18 @@ impl<R: Changes + Catalogued + Drop, H: Runtime + AllocGlobal> SiteDesk<'_, R, H
     }
 
     // Keeps the scope of a meeting whose greeting is accepted, and what the other site lacked of what it is sent.
-    fn keep_greeted(&mut self, meeting: usize, scope: MeetingScope, lacked: Vec<(u16, u32)>) {
+    fn keep_greeted(&mut self, meeting: usize, scope: MeetingScope, lacked: Vec<(u16, u32)>)
+        ensures { R.seen self.new.site ≡ R.seen self.old.site }
+    {
         let greeted = GreetedPeer { scope, lacked };
         self.scopes.keep(meeting, MeetingState::Greeted(greeted));
     }
 
     /// The second step: reads a greeting, and writes the site's own with the entries that the peer lacks. A peer that
     /// is refused gets the site's own all the same, by which it sees why.
-    pub(crate) fn answer(
-        &mut self,
-        meeting: usize,
-        greeting: &[u8],
-        out: &mut Outbox,
-    ) -> StepResult {
+    pub(crate) fn answer(&mut self, meeting: usize, greeting: &[u8], out: &mut Outbox) -> StepResult
+        ensures { R.seen self.new.site ≡ R.seen self.old.site }
+    {
         let Some(scope) = self.take_scope(meeting) else {
             return StepResult::Stop;
         };
@@ -241,7 +280,9 @@ impl<R: Changes + Catalogued + Drop, H: Runtime + AllocGlobal> SiteDesk<'_, R, H
     }
 
     // Takes note of what a meeting left out, and of what the other site lacked of what it was sent.
-    fn end_greeted(&mut self, report: &MeetingReport, greeted: GreetedPeer) {
+    fn end_greeted(&mut self, report: &MeetingReport, greeted: GreetedPeer)
+        ensures { R.seen self.new.site ≡ R.seen self.old.site }
+    {
         let GreetedPeer { scope, lacked } = greeted;
         let address = report.peer.ip().to_canonical();
         self.raise_alarms(&scope.left_out, address);
@@ -251,7 +292,9 @@ impl<R: Changes + Catalogued + Drop, H: Runtime + AllocGlobal> SiteDesk<'_, R, H
     }
 
     /// Ends a meeting, and tells whoever watches what it came to; without memory for that it counts as failed.
-    pub(crate) fn end(&mut self, report: &MeetingReport) -> MeetingOutcome {
+    pub(crate) fn end(&mut self, report: &MeetingReport) -> MeetingOutcome
+        ensures { R.seen self.new.site ≡ R.seen self.old.site }
+    {
         let outcome = match self.meetings.end(report, self.now) {
             Ok((outcome, line)) => {
                 self.tell_line(line.as_str());
@@ -266,7 +309,9 @@ impl<R: Changes + Catalogued + Drop, H: Runtime + AllocGlobal> SiteDesk<'_, R, H
     }
 
     /// Tells whoever watches why a peer is not met.
-    pub(crate) fn refuse(&mut self, peer: SocketAddr, refusal: PeerRefusal) {
+    pub(crate) fn refuse(&mut self, peer: SocketAddr, refusal: PeerRefusal)
+        ensures { R.seen self.new.site ≡ R.seen self.old.site }
+    {
         let why = match refusal {
             PeerRefusal::Address => "its address is not allowed",
             PeerRefusal::Crowded => "as many meetings are under way as can be",
@@ -275,7 +320,9 @@ impl<R: Changes + Catalogued + Drop, H: Runtime + AllocGlobal> SiteDesk<'_, R, H
     }
 
     /// The peer that a client asked to have called, which is given once; none if nobody asked since.
-    pub(crate) fn next_wish(&mut self) -> Option<SocketAddr> {
+    pub(crate) fn next_wish(&mut self) -> Option<SocketAddr>
+        ensures { R.seen self.new.site ≡ R.seen self.old.site }
+    {
         self.wish.take()
     }
 
@@ -303,18 +350,18 @@ impl<R: Changes + Catalogued + Drop, H: Runtime + AllocGlobal> SiteDesk<'_, R, H
         received: Result<Received, MeetingError>,
         scope: MeetingScope,
         lacked: Vec<(u16, u32)>,
-    ) -> StepResult {
+    ) -> StepResult
+        ensures kept { R.seen self.new.site ≡ R.seen self.old.site }
+        ensures next { result ≡ step_after received }
+    {
         match received {
             Ok(_) | Err(MeetingError::WriteFault { .. }) => {
                 self.keep_greeted(meeting, scope, lacked);
-                StepResult::Part
             }
-            Err(error) if is_refused(error) => StepResult::Stop,
-            Err(_) => {
-                self.keep_greeted(meeting, scope, Vec::new(self.alloc));
-                StepResult::Stop
-            }
+            Err(error) if is_refused(error) => {}
+            Err(_) => self.keep_greeted(meeting, scope, Vec::new(self.alloc)),
         }
+        step_after(received)
     }
 
     /// The third step: takes the entries of a reply, and writes those that the peer lacks.
@@ -324,7 +371,9 @@ impl<R: Changes + Catalogued + Drop, H: Runtime + AllocGlobal> SiteDesk<'_, R, H
         peer: SocketAddr,
         reply: &[u8],
         out: &mut Outbox,
-    ) -> StepResult {
+    ) -> StepResult
+        ensures { Settles (R.seen self.old.site) reply.now result (R.seen self.new.site) }
+    {
         let Some(scope) = self.take_scope(meeting) else {
             return StepResult::Stop;
         };
@@ -350,7 +399,9 @@ impl<R: Changes + Catalogued + Drop, H: Runtime + AllocGlobal> SiteDesk<'_, R, H
     }
 
     /// The fourth step: takes the entries of the peer, and notes what it came to.
-    pub(crate) fn finish(&mut self, meeting: usize, entries: &[u8]) {
+    pub(crate) fn finish(&mut self, meeting: usize, entries: &[u8])
+        ensures { Finishes (R.seen self.old.site) entries.now (R.seen self.new.site) }
+    {
         let Some(scope) = self.take_scope(meeting) else {
             return;
         };

@@ -11,7 +11,8 @@
 //! Costs: `SiteDesk::new` goes through the outcomes of all that is held. A request costs what the calls of the site
 //! cost that it makes, and a statement waits for the flush of its journal.
 //!
-//! Its definitions stand in `specs/`: in Sites what a call does to the site, and with which status it is answered.
+//! Its definitions stand in `specs/`: in Sites what a call does to the site, and with which status it is answered; in
+//! Meetings what the steps of a meeting do to it that are given entries.
 //!
 //! td_site_desk moves no bytes but those of the console. It changes a site by `Replica::issue` and by the steps of a
 //! meeting alone.

@@ -1,5 +1,7 @@
 //! What a step of a meeting came to that takes entries.
 
+ghost use Rattle.std.specs.Prelude.{◌≡◌};
+
 use crate::desk::SiteDesk;
 use crate::meetings::Note;
 use std::alloc::AllocError;
@@ -133,14 +135,18 @@ fn push_full_peer(out: &mut String, peer: Option<SocketAddr>) -> Result<(), Allo
 
 impl<R: Changes + Catalogued + Drop, H: Runtime + AllocGlobal> SiteDesk<'_, R, H> {
     // Keeps what a step came to until its meeting ends; a step whose words had no memory leaves no note.
-    fn note(&mut self, meeting: usize, outcome: MeetingOutcome, words: Result<String, AllocError>) {
+    fn note(&mut self, meeting: usize, outcome: MeetingOutcome, words: Result<String, AllocError>)
+        ensures { R.seen self.new.site ≡ R.seen self.old.site }
+    {
         if let Ok(words) = words {
             self.meetings.note(meeting, Note { outcome, words });
         }
     }
 
     /// Notes what a step came to, in these words.
-    pub(crate) fn note_words(&mut self, meeting: usize, outcome: MeetingOutcome, words: &str) {
+    pub(crate) fn note_words(&mut self, meeting: usize, outcome: MeetingOutcome, words: &str)
+        ensures { R.seen self.new.site ≡ R.seen self.old.site }
+    {
         let words = String::from_str(self.alloc, words);
         self.note(meeting, outcome, words);
     }
@@ -163,7 +169,9 @@ impl<R: Changes + Catalogued + Drop, H: Runtime + AllocGlobal> SiteDesk<'_, R, H
     }
 
     /// Keeps why a step failed, or how much it did, until its meeting ends.
-    pub(crate) fn note_error(&mut self, meeting: usize, error: MeetingError) {
+    pub(crate) fn note_error(&mut self, meeting: usize, error: MeetingError)
+        ensures { R.seen self.new.site ≡ R.seen self.old.site }
+    {
         let outcome = outcome_of(error);
         let words = self.error_words(error, outcome);
         self.note(meeting, outcome, words);
@@ -247,7 +255,9 @@ impl<R: Changes + Catalogued + Drop, H: Runtime + AllocGlobal> SiteDesk<'_, R, H
     }
 
     // Looks at what became of the statements of this site, if others came.
-    fn review(&mut self, fresh: usize) {
+    fn review(&mut self, fresh: usize)
+        ensures { R.seen self.new.site ≡ R.seen self.old.site }
+    {
         if fresh == 0 {
             return;
         }
@@ -264,7 +274,9 @@ impl<R: Changes + Catalogued + Drop, H: Runtime + AllocGlobal> SiteDesk<'_, R, H
     }
 
     // Has a site that lacks statements issue again, since a meeting has brought those that it issued before.
-    fn end_lacking(&mut self) {
+    fn end_lacking(&mut self)
+        ensures { R.seen self.new.site ≡ R.seen self.old.site }
+    {
         if !self.is_lacking {
             return;
         }
@@ -284,7 +296,9 @@ impl<R: Changes + Catalogued + Drop, H: Runtime + AllocGlobal> SiteDesk<'_, R, H
         scope: &MeetingScope,
         step: &TakingStep,
         before: Option<&Snapshot>,
-    ) {
+    )
+        ensures { R.seen self.new.site ≡ R.seen self.old.site }
+    {
         if step.received.is_ok() && !scope.leaves_out(self.site.site()) {
             self.end_lacking();
         }

@@ -1,5 +1,10 @@
 //! What the event loop serves.
 
+ghost use Rattle.std.specs.Prelude.{◌≡◌, OnErr, OnOk};
+ghost use Rattle.http_server.specs.Response.{IsBlank};
+ghost use Rattle.td_http_api.specs.Services.{Leads};
+ghost use Rattle.td_site_desk.specs.Meetings.{Finishes, Settles};
+
 use crate::desk::SiteDesk;
 use bytes::Bytes;
 use http::Request;
@@ -12,7 +17,7 @@ use td_comparison::FirstMessage;
 use td_event_loop::{
     MeetingOutcome, MeetingReport, Meets, Outbox, PeerRefusal, Server, StepResult,
 };
-use td_http_api::Api;
+use td_http_api::{Api, Desk};
 use td_replica::Catalogued;
 
 /// A site that is asked by HTTP and meets others.
@@ -23,31 +28,47 @@ pub struct SiteServer<'a, R: Drop, H> {
 }
 
 impl<'a, R: Drop, H> SiteServer<'a, R, H> {
-    pub fn new(api: Api<SiteDesk<'a, R, H>>) -> SiteServer<'a, R, H> {
+    pub fn new(api: Api<SiteDesk<'a, R, H>>) -> SiteServer<'a, R, H>
+        ensures { result.api ≡ api.entry }
+    {
         SiteServer { api, answered: 0 }
     }
 
-    pub fn into_api(self) -> Api<SiteDesk<'a, R, H>> {
+    pub fn into_api(self) -> Api<SiteDesk<'a, R, H>>
+        ensures { result ≡ self.entry.api }
+    {
         self.api
     }
 }
 
 impl<R: Changes + Catalogued + Drop, H: Runtime + AllocGlobal> Service for SiteServer<'_, R, H> {
-    ghost answers = { λ _ _ _ _. Unit {0} };
+    // A request is served once, by what the desk does to the site.
+    ghost answers = { λ old request response new.
+        Leads ⟦<SiteDesk<'static, R, H> as Desk>⟧.answers old.api.guard old.api.desk request response
+        new.api.guard new.api.desk };
 
-    fn call(
-        &mut self,
-        request: &Request<Bytes>,
-        response: &mut Response,
-    ) -> Result<(), AllocError> {
-        // The interface of HTTP answers every request.
-        let _ = self.api.call(request, response);
+    fn call(&mut self, request: &Request<Bytes>, response: &mut Response) -> Result<(), AllocError>
+        requires { IsBlank response.old }
+        ensures ok { OnOk result (Leads ⟦<SiteDesk<'static, R, H> as Desk>⟧.answers
+            self.old.api.guard self.old.api.desk request.now response.new self.new.api.guard
+            self.new.api.desk) }
+        ensures err { OnErr result (self.new ≡ self.old) }
+    {
+        self.api.call(request, response)?;
         self.answered = self.answered.saturating_add(1);
         Ok(())
     }
 }
 
 impl<R: Changes + Catalogued + Drop, H: Runtime + AllocGlobal> Meets for SiteServer<'_, R, H> {
+    ghost keeps = { λ old new. R.seen new.api.desk.site ≡ R.seen old.api.desk.site };
+
+    ghost settles = { λ old reply step new.
+        Settles (R.seen old.api.desk.site) reply step (R.seen new.api.desk.site) };
+
+    ghost finishes = { λ old entries new.
+        Finishes (R.seen old.api.desk.site) entries (R.seen new.api.desk.site) };
+
     fn open(&mut self, meeting: usize, peer: SocketAddr, out: &mut Outbox) -> Option<FirstMessage> {
         self.api.desk.open(meeting, peer, out)
     }

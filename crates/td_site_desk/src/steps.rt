@@ -1,5 +1,7 @@
 //! The steps of a meeting over bytes in memory.
 
+ghost use Rattle.td_site_desk.specs.Meetings.{FinishesBytes, SettlesBytes};
+
 use std::alloc::Global;
 use td_checked_meetings::{
     MeetingScope, Received, answer, answer_question, ask, compare, finish, greet, settle,
@@ -96,15 +98,12 @@ pub(crate) fn settle_bytes<R: Replica>(
     reply: &[u8],
     out: &mut Outbox,
     meter: &mut Meter,
-) -> Result<Received, MeetingError> {
-    settle(
-        alloc,
-        site,
-        scope,
-        &mut Device::new(reply),
-        &mut Device::new(out),
-        meter,
-    )
+) -> Result<Received, MeetingError>
+    ensures { SettlesBytes (R.seen site.old) scope.now reply.now result (R.seen site.new) }
+{
+    let mut source = Device::new(reply);
+    let mut sink = Device::new(out);
+    settle(alloc, site, scope, &mut source, &mut sink, meter)
 }
 
 /// Takes the entries of the peer as one batch.
@@ -114,6 +113,9 @@ pub(crate) fn finish_bytes<R: Replica>(
     scope: &MeetingScope,
     entries: &[u8],
     meter: &mut Meter,
-) -> Result<Received, MeetingError> {
-    finish(alloc, site, scope, &mut Device::new(entries), meter)
+) -> Result<Received, MeetingError>
+    ensures { FinishesBytes (R.seen site.old) scope.now entries.now result (R.seen site.new) }
+{
+    let mut source = Device::new(entries);
+    finish(alloc, site, scope, &mut source, meter)
 }

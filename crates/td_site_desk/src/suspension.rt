@@ -93,7 +93,9 @@ impl<R: Changes + Catalogued + Drop, H: Runtime + AllocGlobal> SiteDesk<'_, R, H
     }
 
     /// Whether a meeting is not made, which is noted then.
-    pub(crate) fn refuses_meeting(&mut self, meeting: usize) -> bool {
+    pub(crate) fn refuses_meeting(&mut self, meeting: usize) -> bool
+        ensures { R.seen self.new.site ≡ R.seen self.old.site }
+    {
         if self.suspension.is_none() {
             return false;
         }
