@@ -100,16 +100,3 @@ impl Write for Narrow {
         Ok(())
     }
 }
-
-/// Gives one byte a read.
-#[derive(Drop)]
-pub struct Slow {
-    pub bytes: &'static [u8],
-}
-
-impl Read for Slow {
-    fn read(&mut self, buf: &mut [u8]) -> io::Result<usize> {
-        let count = buf.len().min(1);
-        self.bytes.read(&mut buf[..count])
-    }
-}

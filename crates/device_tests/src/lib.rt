@@ -1,4 +1,4 @@
-//! Devices over readers and writers that are interrupted, fail, give one byte a time or take none.
+//! Devices over readers and writers that are interrupted, fail, take one byte a time or none.
 //!
 //! These tests stand apart from the crate that they call, since a crate is proved once more for the tests in it.
 #![tactic(auto)]

@@ -1,3 +1,0 @@
--- The definitions of the crate.
-pub mod Steps
-pub mod Going
