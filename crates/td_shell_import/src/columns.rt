@@ -64,6 +64,16 @@ fn check_titles(alloc: Global, heading: &Heading, titles: &ByteRecord) -> Result
     Ok(())
 }
 
+// Adds the column of an attribute.
+fn add_column(
+    alloc: Global,
+    titles: &ByteRecord,
+    name: &Name,
+    columns: &mut Vec<usize>,
+) -> Result<(), ImportFault> {
+    Ok(columns.push(column_of(alloc, titles, name)?)?)
+}
+
 /// The column of each attribute, in the order of the heading: each is named once, and no other column is.
 pub fn columns_of(
     alloc: Global,
@@ -73,7 +83,7 @@ pub fn columns_of(
     check_titles(alloc, heading, titles)?;
     let mut columns = Vec::with_capacity(alloc, heading.len())?;
     for (name, _type) in heading.fields() {
-        columns.push(column_of(alloc, titles, name)?)?;
+        add_column(alloc, titles, name, &mut columns)?;
     }
     Ok(columns)
 }

@@ -44,16 +44,56 @@ pub(crate) fn is_short(relvar: &Name, heading: &Heading, row: &Row, most_bytes: 
     frame_bytes(relvar).saturating_add(tuple_bytes(heading, row)) <= most_bytes
 }
 
+// Appends the attribute at this place of a tuple: its name with its literal.
+fn push_attribute(
+    text: &mut String,
+    at: usize,
+    name: &Name,
+    literal: &str,
+) -> Result<(), AllocError> {
+    text.push_str(if at == 0 { " " } else { ", " })?;
+    text.push_str(name.as_str())?;
+    text.push_str(" ")?;
+    text.push_str(literal)
+}
+
 // Appends the row as a tuple of the language: each attribute's name with its literal.
 fn push_tuple(text: &mut String, heading: &Heading, row: &Row) -> Result<(), AllocError> {
     text.push_str("TUPLE {")?;
     for (at, (field, literal)) in heading.fields().iter().zip(&row.literals).enumerate() {
-        text.push_str(if at == 0 { " " } else { ", " })?;
-        text.push_str(field.0.as_str())?;
-        text.push_str(" ")?;
-        text.push_str(literal.as_str())?;
+        push_attribute(text, at, &field.0, literal.as_str())?;
     }
     text.push_str(" }")
+}
+
+// Appends the row behind so many others.
+fn push_further_tuple(
+    text: &mut String,
+    count: usize,
+    heading: &Heading,
+    row: &Row,
+) -> Result<(), AllocError> {
+    if count > 0 {
+        text.push_str(", ")?;
+    }
+    push_tuple(text, heading, row)
+}
+
+// Appends as many of the rows as have room in so many bytes, with what closes them.
+fn push_rows(
+    text: &mut String,
+    heading: &Heading,
+    rows: &[Row],
+    most_bytes: usize,
+) -> Result<usize, AllocError> {
+    for (count, row) in rows.iter().enumerate() {
+        let more = tuple_bytes(heading, row).saturating_add(CLOSING.len());
+        if text.len().saturating_add(more) > most_bytes {
+            return Ok(count);
+        }
+        push_further_tuple(text, count, heading, row)?;
+    }
+    Ok(rows.len())
 }
 
 /// The statement that inserts the first of these rows: as many as have room in so many bytes, and 200 at most.
@@ -67,18 +107,8 @@ pub fn insertion_of(
     let mut text = String::from_str(alloc, FRONT)?;
     text.push_str(relvar.as_str())?;
     text.push_str(OPENING)?;
-    let mut count: usize = 0;
-    for row in rows.iter().take(MOST_TUPLES) {
-        let more = tuple_bytes(heading, row).saturating_add(CLOSING.len());
-        if text.len().saturating_add(more) > most_bytes {
-            break;
-        }
-        if count > 0 {
-            text.push_str(", ")?;
-        }
-        push_tuple(&mut text, heading, row)?;
-        count = count.saturating_add(1);
-    }
+    let most = rows.len().min(MOST_TUPLES);
+    let count = push_rows(&mut text, heading, &rows[..most], most_bytes)?;
     text.push_str(CLOSING)?;
     Ok(ImportStatement { text, count })
 }
