@@ -13,7 +13,7 @@ use std::rt::Files;
 use td_paths::{Unreadable, replace_file};
 
 /// Statements of a site differ here and at the site that was met at an address.
-#[derive(Clone, Copy, Debug, PartialEq, Eq)]
+#[derive(Clone, Copy, PartialEq, Eq)]
 pub struct Alarm {
     pub site: u16,
     pub address: IpAddr,

@@ -6,7 +6,7 @@ use std::str;
 use td_values::{Kind, Text, TypeKind, Value};
 
 /// Why a cell is not read.
-#[derive(Clone, Copy, Debug, Drop, PartialEq, Eq)]
+#[derive(Clone, Copy, Drop)]
 pub enum Unread {
     OutOfMemory,
     Fault(CellFault),

@@ -3,7 +3,7 @@
 use crate::entries::ENTRY;
 
 /// How the relations that queries give are shown.
-#[derive(Clone, Copy, Debug, PartialEq, Eq)]
+#[derive(Clone, Copy)]
 pub enum Mode {
     Table,
     Csv,
@@ -11,7 +11,7 @@ pub enum Mode {
 }
 
 /// What a line with a dot in front says.
-#[derive(Clone, Copy, Debug, PartialEq, Eq)]
+#[derive(Clone, Copy)]
 pub enum DotCommand<'a> {
     Help,
     Tables,

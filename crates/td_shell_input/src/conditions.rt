@@ -13,7 +13,7 @@ enum Letters {
 }
 
 /// The words IF of a text, and the END IF that close them. It takes no memory, and each byte costs the same.
-#[derive(Clone, Copy, PartialEq, Eq)]
+#[derive(Clone, Copy)]
 pub struct Conditions {
     letters: Letters,
     // Whether nothing stands in front of the word.

@@ -3,7 +3,7 @@
 use crate::conditions::{Conditions, goes_on_in_word};
 
 /// What a text is after some of its lines.
-#[derive(Clone, Copy, Debug, PartialEq, Eq)]
+#[derive(Clone, Copy, PartialEq, Eq)]
 pub enum Standing {
     /// Blanks and comments alone.
     Empty,
@@ -23,7 +23,7 @@ enum Place {
 }
 
 /// Where the reading of a text stands. It takes no memory, and each byte costs the same.
-#[derive(Clone, Copy, PartialEq, Eq)]
+#[derive(Clone, Copy)]
 pub struct Scan {
     place: Place,
     open_brackets: usize,
