@@ -18,9 +18,14 @@ impl From<AllocError> for Unread {
     }
 }
 
-// Whether the byte is NUL, LF or CR, with which a cell is refused as a text.
-fn stands_in_no_text(byte: &u8) -> bool {
-    *byte == 0 || *byte == b'\n' || *byte == b'\r'
+// Whether one of the bytes is NUL, LF or CR, with which a cell is refused as a text.
+fn is_no_text(cell: &[u8]) -> bool {
+    for byte in cell {
+        if matches!(*byte, 0 | b'\n' | b'\r') {
+            return true;
+        }
+    }
+    false
 }
 
 // The cell as a text, with its blanks, if it is one line of UTF-8 without NUL.
@@ -28,7 +33,7 @@ fn text_in(alloc: Global, cell: &[u8]) -> Result<Kind, Unread> {
     let Ok(text) = str::from_utf8(cell) else {
         return Err(Unread::Fault(CellFault::NoUtf8));
     };
-    if cell.iter().any(stands_in_no_text) {
+    if is_no_text(cell) {
         return Err(Unread::Fault(CellFault::NoText));
     }
     Ok(Kind::Char(Text::from_str(alloc, text)?))

@@ -21,7 +21,10 @@ fn is_title(cell: &[u8], name: &Name) -> bool {
 
 // Whether the title of this column names the attribute; no title stands behind the last column.
 fn has_title(titles: &ByteRecord, at: usize, name: &Name) -> bool {
-    titles.get(at).is_some_and(|cell| is_title(cell, name))
+    match titles.get(at) {
+        Some(cell) => is_title(cell, name),
+        None => false,
+    }
 }
 
 // The column of an attribute, which one title names.
@@ -47,8 +50,10 @@ fn column_of(alloc: Global, titles: &ByteRecord, name: &Name) -> Result<usize, I
 
 // Refuses a title that names no attribute.
 fn check_title(alloc: Global, fields: &[(Name, TdType)], title: &[u8]) -> Result<(), ImportFault> {
-    if fields.iter().any(|field| is_title(title, &field.0)) {
-        return Ok(());
+    for (field, _type) in fields {
+        if is_title(title, field) {
+            return Ok(());
+        }
     }
     let name = printable_text(alloc, title)?;
     Err(ImportFault::UnknownColumn { name })

@@ -10,7 +10,7 @@ use td_values::{Heading, Name};
 fn places_of(alloc: Global, heading: &Heading, key: &[Name]) -> Result<Vec<usize>, AllocError> {
     let mut places = Vec::with_capacity(alloc, key.len())?;
     for (at, field) in heading.fields().iter().enumerate() {
-        if key.iter().any(|name| *name == field.0) {
+        if key.contains(&field.0) {
             places.push(at)?;
         }
     }
@@ -36,6 +36,14 @@ fn is_same_tuple(first: &Row, second: &Row) -> bool {
     first.literals.as_slice() == second.literals.as_slice()
 }
 
+// The row at a place, if there is a place.
+fn first_row<'r>(rows: &'r [Row], place: Option<&usize>) -> Option<&'r Row> {
+    match place {
+        Some(place) => rows.get(*place),
+        None => None,
+    }
+}
+
 /// Refuses rows of which two have one key and are not the same tuple. It costs a search among the rows before, for each
 /// row.
 pub fn check_keys(
@@ -48,8 +56,7 @@ pub fn check_keys(
     let mut firsts: BTreeMap<String, usize> = BTreeMap::new(alloc);
     for (at, row) in rows.iter().enumerate() {
         let values = values_at(alloc, row, &places)?;
-        let first = firsts.get(&values).copied();
-        match first.and_then(|place| rows.get(place)) {
+        match first_row(rows, firsts.get(&values)) {
             None => {
                 firsts.insert(values, at)?;
             }
