@@ -6,7 +6,7 @@ use std::alloc::{AllocError, Global};
 use std::net::SocketAddr;
 
 /// A peer that is called.
-#[derive(Clone, Copy, Debug, PartialEq, Eq)]
+#[derive(Clone, Copy)]
 struct Call {
     address: SocketAddr,
     /// When it is called next.

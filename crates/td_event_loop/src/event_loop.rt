@@ -22,7 +22,7 @@ use std::random::RandomSource;
 use std::time::{Clock, Duration, Instant};
 
 /// Where a site listens, and whom it calls.
-#[derive(Clone, Copy, Debug)]
+#[derive(Clone, Copy)]
 pub struct LoopOptions<'a> {
     pub clients: SocketAddr,
     /// Where peers call, if they may.
@@ -70,6 +70,52 @@ fn listen<N: Net>(
     poll.registry()
         .register(&mut listener, source.token(), Interest::READABLE)?;
     Ok(listener)
+}
+
+// What watches, and where it listens.
+#[derive(Drop)]
+struct Listeners {
+    poll: Poll,
+    of_clients: TcpListener,
+    of_peers: Option<TcpListener>,
+}
+
+impl Listeners {
+    fn bind<N: Net + AllocGlobal>(net: &N, options: &LoopOptions<'_>) -> io::Result<Listeners> {
+        let poll = Poll::new(net)?;
+        let of_clients = listen(net, &poll, options.clients, EventSource::ClientListener)?;
+        let of_peers = match options.peers {
+            Some(at) => Some(listen(net, &poll, at, EventSource::PeerListener)?),
+            None => None,
+        };
+        Ok(Listeners {
+            poll,
+            of_clients,
+            of_peers,
+        })
+    }
+}
+
+// What there is room for beforehand.
+#[derive(Drop)]
+struct Rooms {
+    allowed: Vec<IpAddr>,
+    clients: Vec<Option<Client>>,
+    peers: Vec<Option<Peer>>,
+    calls: Calls,
+    buffer: Vec<u8>,
+}
+
+impl Rooms {
+    fn new(alloc: Global, options: &LoopOptions<'_>) -> io::Result<Rooms> {
+        Ok(Rooms {
+            allowed: options.allowed.to_vec(alloc)?,
+            clients: empty_slots(alloc, MOST_CLIENTS)?,
+            peers: empty_slots(alloc, MOST_MEETINGS)?,
+            calls: Calls::new(alloc, options.calls, options.every)?,
+            buffer: Vec::from_elem(alloc, 0u8, BUFFER)?,
+        })
+    }
 }
 
 // The slot of the client that is idle longest; none where each has an answer under way.
@@ -167,25 +213,31 @@ impl EventLoop {
     /// Listens for clients and peers. A port of 0 leaves the choice to the system.
     pub fn bind<N: Net + AllocGlobal>(net: &N, options: &LoopOptions<'_>) -> io::Result<EventLoop> {
         let alloc = net.alloc();
-        let poll = Poll::new(net)?;
-        let client_listener = listen(net, &poll, options.clients, EventSource::ClientListener)?;
-        let peer_listener = match options.peers {
-            Some(at) => Some(listen(net, &poll, at, EventSource::PeerListener)?),
-            None => None,
-        };
+        let Rooms {
+            allowed,
+            clients,
+            peers,
+            calls,
+            buffer,
+        } = Rooms::new(alloc, options)?;
+        let Listeners {
+            poll,
+            of_clients,
+            of_peers,
+        } = Listeners::bind(net, options)?;
         Ok(EventLoop {
             alloc,
             poll,
-            client_listener: Some(client_listener),
-            peer_listener,
+            client_listener: Some(of_clients),
+            peer_listener: of_peers,
             has_pending_clients: true,
             has_pending_peers: true,
             console: None,
-            allowed: options.allowed.to_vec(alloc)?,
-            clients: empty_slots(alloc, MOST_CLIENTS)?,
-            peers: empty_slots(alloc, MOST_MEETINGS)?,
-            calls: Calls::new(alloc, options.calls, options.every)?,
-            buffer: Vec::from_elem(alloc, 0u8, BUFFER)?,
+            allowed,
+            clients,
+            peers,
+            calls,
+            buffer,
             begun: None,
         })
     }
@@ -249,30 +301,41 @@ impl EventLoop {
         Ok(())
     }
 
-    // Takes a client into a free slot, or into that of the idlest client; where each has an answer under way, it drops
-    // the new one.
+    // Has the socket of a client or of a peer watched.
+    fn watch(&self, stream: &mut TcpStream, source: EventSource) -> io::Result<()> {
+        let interests = Interest::READABLE | Interest::WRITABLE;
+        self.poll
+            .registry()
+            .register(stream, source.token(), interests)
+    }
+
+    // Takes a client into a slot, and has its socket watched.
+    fn keep_client(&mut self, mut client: Client, slot: usize) -> io::Result<()> {
+        self.watch(client.stream_mut(), EventSource::Client(slot))?;
+        fill_slot(&mut self.clients, slot, client);
+        Ok(())
+    }
+
+    // A free slot, or that of the idlest client; none where each has an answer under way.
+    fn slot_of_client(&self) -> Option<usize> {
+        match free_slot(&self.clients, 0, MOST_CLIENTS) {
+            Some(slot) => Some(slot),
+            None => idlest_client(&self.clients),
+        }
+    }
+
+    // Takes a client into a slot; where none is free, it drops the client.
     fn add_client<H: RandomSource>(
         &mut self,
         host: &H,
         stream: TcpStream,
         now: u64,
     ) -> io::Result<()> {
-        let free = match free_slot(&self.clients, 0, MOST_CLIENTS) {
-            Some(slot) => Some(slot),
-            None => idlest_client(&self.clients),
-        };
-        let Some(slot) = free else {
+        let Some(slot) = self.slot_of_client() else {
             return Ok(());
         };
         let keys = RandomState::new(host)?;
-        let mut client = Client::new(self.alloc, keys, stream, now);
-        self.poll.registry().register(
-            client.stream_mut(),
-            EventSource::Client(slot).token(),
-            Interest::READABLE | Interest::WRITABLE,
-        )?;
-        fill_slot(&mut self.clients, slot, client);
-        Ok(())
+        self.keep_client(Client::new(self.alloc, keys, stream, now), slot)
     }
 
     // Accepts the clients that wait, at most TURN of them; the rest waits for the next turn.
@@ -302,16 +365,12 @@ impl EventLoop {
     // Whether a peer may meet this site: its address is a listed one, or none are listed.
     fn is_allowed(&self, peer: SocketAddr) -> bool {
         let address = peer.ip().to_canonical();
-        self.allowed.is_empty() || self.allowed.iter().any(|allowed| *allowed == address)
+        self.allowed.is_empty() || self.allowed.contains(&address)
     }
 
     // Takes a meeting into a slot, and has its socket watched.
     fn add_peer(&mut self, mut peer: Peer, slot: usize) -> io::Result<()> {
-        self.poll.registry().register(
-            peer.stream_mut(),
-            EventSource::Peer(slot).token(),
-            Interest::READABLE | Interest::WRITABLE,
-        )?;
+        self.watch(peer.stream_mut(), EventSource::Peer(slot))?;
         fill_slot(&mut self.peers, slot, peer);
         Ok(())
     }

@@ -8,7 +8,7 @@ use std::net::SocketAddr;
 use td_comparison::FirstMessage;
 
 /// The side of a meeting on which a site is.
-#[derive(Clone, Copy, Debug, PartialEq, Eq)]
+#[derive(Clone, Copy, PartialEq, Eq)]
 pub enum MeetingSide {
     /// It called the other site.
     First,
@@ -17,7 +17,7 @@ pub enum MeetingSide {
 }
 
 /// Why a meeting ended between its steps.
-#[derive(Clone, Copy, Debug, PartialEq, Eq)]
+#[derive(Clone, Copy)]
 pub enum Loss {
     /// The peer sent and took no byte for 30 seconds.
     Silent,
@@ -30,7 +30,7 @@ pub enum Loss {
 }
 
 /// Why a peer is not met.
-#[derive(Clone, Copy, Debug, PartialEq, Eq)]
+#[derive(Clone, Copy)]
 pub enum PeerRefusal {
     /// Its address is none of those that are allowed.
     Address,
@@ -39,7 +39,7 @@ pub enum PeerRefusal {
 }
 
 /// What follows a step.
-#[derive(Clone, Copy, Debug, PartialEq, Eq)]
+#[derive(Clone, Copy, PartialEq, Eq)]
 pub enum StepResult {
     /// What was written is sent, and the peer is awaited.
     Continue,
@@ -50,7 +50,7 @@ pub enum StepResult {
 }
 
 /// What a meeting came to.
-#[derive(Clone, Copy, Debug, PartialEq, Eq)]
+#[derive(Clone, Copy, PartialEq, Eq)]
 pub enum MeetingOutcome {
     /// All that was to be exchanged was.
     Complete,
@@ -63,7 +63,7 @@ pub enum MeetingOutcome {
 }
 
 /// A meeting that ended.
-#[derive(Clone, Copy, Debug, PartialEq, Eq)]
+#[derive(Clone, Copy)]
 pub struct MeetingReport {
     /// Its number, below `MOST_MEETINGS`. A meeting that begins later may have it too.
     pub meeting: usize,

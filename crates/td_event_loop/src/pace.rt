@@ -5,7 +5,7 @@ use crate::meets::Loss;
 
 /// How long a connection has waited for its other end, and for how many bytes. What the loop spends on others counts as
 /// two ticks a turn at most.
-#[derive(Clone, Copy, Debug, PartialEq, Eq)]
+#[derive(Clone, Copy)]
 pub(crate) struct Pace {
     seen: u64,
     waited: u64,

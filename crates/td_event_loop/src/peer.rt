@@ -16,7 +16,7 @@ use td_comparison::{FirstMessage, comparison_extent, differences_extent};
 use td_stream_bounds::{Extent, StreamScanner, greeting_extent};
 
 /// What is awaited.
-#[derive(Clone, Copy, Debug, PartialEq, Eq)]
+#[derive(Clone, Copy, PartialEq, Eq)]
 enum Stage {
     /// The second site waits for a question or a greeting.
     Opening,

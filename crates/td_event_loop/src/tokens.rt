@@ -20,7 +20,7 @@ const FIRST_PEER: usize = FIRST_CLIENT + MOST_CLIENTS;
 pub(crate) const MOST_EVENTS: usize = FIRST_PEER + MOST_MEETINGS;
 
 /// What events are of: a listener, the console, or the connection in a slot.
-#[derive(Clone, Copy, Debug, PartialEq, Eq)]
+#[derive(Clone, Copy)]
 pub(crate) enum EventSource {
     ClientListener,
     PeerListener,

@@ -4,7 +4,7 @@ use std::io;
 use std::io::ErrorKind;
 
 /// What a connection is about, once it had its turn.
-#[derive(Clone, Copy, Debug, PartialEq, Eq)]
+#[derive(Clone, Copy, PartialEq, Eq)]
 pub(crate) enum Progress {
     /// It can go on at once.
     Busy,
@@ -15,7 +15,7 @@ pub(crate) enum Progress {
 }
 
 /// What a read or a write came to.
-#[derive(Clone, Copy, Debug, PartialEq, Eq)]
+#[derive(Clone, Copy)]
 pub(crate) enum Transfer {
     Bytes(usize),
     Blocked,
@@ -34,7 +34,7 @@ pub(crate) fn transfer_of(count: io::Result<usize>) -> Transfer {
 }
 
 /// What a connection may be asked for: an event says so, and a call that would block takes it back.
-#[derive(Clone, Copy, Debug, PartialEq, Eq)]
+#[derive(Clone, Copy)]
 pub(crate) struct Readiness {
     pub(crate) is_readable: bool,
     pub(crate) is_writable: bool,

@@ -44,24 +44,22 @@ pub(crate) fn is_short(relvar: &Name, heading: &Heading, row: &Row, most_bytes: 
     frame_bytes(relvar).saturating_add(tuple_bytes(heading, row)) <= most_bytes
 }
 
-// Appends the attribute at this place of a tuple: its name with its literal.
-fn push_attribute(
-    text: &mut String,
-    at: usize,
-    name: &Name,
-    literal: &str,
-) -> Result<(), AllocError> {
+// Appends the attribute at this place of a tuple: its name with its literal in the row.
+fn push_attribute(text: &mut String, at: usize, name: &Name, row: &Row) -> Result<(), AllocError> {
+    let Some(literal) = row.literals.get(at) else {
+        return Ok(());
+    };
     text.push_str(if at == 0 { " " } else { ", " })?;
     text.push_str(name.as_str())?;
     text.push_str(" ")?;
-    text.push_str(literal)
+    text.push_str(literal.as_str())
 }
 
 // Appends the row as a tuple of the language: each attribute's name with its literal.
 fn push_tuple(text: &mut String, heading: &Heading, row: &Row) -> Result<(), AllocError> {
     text.push_str("TUPLE {")?;
-    for (at, (field, literal)) in heading.fields().iter().zip(&row.literals).enumerate() {
-        push_attribute(text, at, &field.0, literal.as_str())?;
+    for (at, (name, _type)) in heading.fields().iter().enumerate() {
+        push_attribute(text, at, name, row)?;
     }
     text.push_str(" }")
 }

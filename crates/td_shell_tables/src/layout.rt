@@ -4,7 +4,7 @@ use std::alloc::{AllocError, Global};
 use unicode_width::UnicodeWidthStr;
 
 /// At which side of its column a cell stands.
-#[derive(Clone, Copy, Debug, PartialEq, Eq)]
+#[derive(Clone, Copy)]
 pub enum Side {
     Left,
     Right,
@@ -69,18 +69,32 @@ fn push_cell(
     }
 }
 
+// Appends a cell in the column at this place, behind the gap that each but the first has; nothing where there is none.
+fn push_at(
+    out: &mut String,
+    columns: &[Column<'_>],
+    widths: &[usize],
+    at: usize,
+    cell: &str,
+) -> Result<(), AllocError> {
+    let (Some(column), Some(width)) = (columns.get(at), widths.get(at)) else {
+        return Ok(());
+    };
+    if at > 0 {
+        out.push_str(GAP)?;
+    }
+    let is_last = at.saturating_add(1) == columns.len();
+    push_cell(out, cell, column.side, *width, is_last)
+}
+
 // Appends the line of the titles, each at the side of its column at which the cells stand.
 fn push_titles(
     out: &mut String,
     columns: &[Column<'_>],
     widths: &[usize],
 ) -> Result<(), AllocError> {
-    for (at, (column, width)) in columns.iter().zip(widths).enumerate() {
-        if at > 0 {
-            out.push_str(GAP)?;
-        }
-        let is_last = at.saturating_add(1) == columns.len();
-        push_cell(out, column.title, column.side, *width, is_last)?;
+    for (at, column) in columns.iter().enumerate() {
+        push_at(out, columns, widths, at, column.title)?;
     }
     out.push_str("\n")
 }
@@ -103,12 +117,8 @@ fn push_row(
     widths: &[usize],
     row: &[String],
 ) -> Result<(), AllocError> {
-    for (at, ((column, width), cell)) in columns.iter().zip(widths).zip(row).enumerate() {
-        if at > 0 {
-            out.push_str(GAP)?;
-        }
-        let is_last = at.saturating_add(1) == columns.len();
-        push_cell(out, cell.as_str(), column.side, *width, is_last)?;
+    for (at, cell) in row.iter().enumerate() {
+        push_at(out, columns, widths, at, cell.as_str())?;
     }
     out.push_str("\n")
 }

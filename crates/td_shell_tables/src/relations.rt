@@ -69,6 +69,16 @@ pub fn counted_tuples(alloc: Global, count: usize) -> Result<String, AllocError>
     format!(in alloc; "{count} tuples")
 }
 
+// The lines of a table but for the last one.
+fn lines_of(alloc: Global, heading: &Heading, tuples: &[Tuple]) -> Result<String, AllocError> {
+    if heading.is_empty() {
+        return String::from_str(alloc, "(no attributes)\n");
+    }
+    let columns = columns_of(alloc, heading.fields())?;
+    let rows = rows_of(alloc, tuples)?;
+    lay_out(alloc, &columns, &rows)
+}
+
 /// A relation's table: its attributes in the order of their names, its tuples in their order, and how many there are.
 /// Integers stand at the right. Texts stand as they are, and other values as the language writes them. A relation
 /// without attributes has no columns. It costs the length of what it gives.
@@ -77,13 +87,7 @@ pub fn relation_table(
     heading: &Heading,
     tuples: &[Tuple],
 ) -> Result<String, AllocError> {
-    let mut out = if heading.is_empty() {
-        String::from_str(alloc, "(no attributes)\n")?
-    } else {
-        let columns = columns_of(alloc, heading.fields())?;
-        let rows = rows_of(alloc, tuples)?;
-        lay_out(alloc, &columns, &rows)?
-    };
+    let mut out = lines_of(alloc, heading, tuples)?;
     let count = counted_tuples(alloc, tuples.len())?;
     out.push_str(count.as_str())?;
     out.push_str("\n")?;
