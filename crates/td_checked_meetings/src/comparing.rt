@@ -4,15 +4,18 @@ ghost use Rattle.std.specs.Prelude.{◌≡◌, ◌<◌, ◌≤◌, ◌^◌, ◌�
 ghost use Rattle.td_io.specs.Streams.{Writes};
 ghost use Rattle.td_stamps.specs.Vectors.{IsVector};
 ghost use Rattle.td_comparison.specs.Digests.{question_of, rises, digest_sites};
+ghost use Rattle.td_comparison.specs.Hashed.{AreHashed, ArePrefixesOf};
 ghost use Rattle.td_checked_meetings.specs.Comparing.{AddsDifferences, AnsweredQuestion, Asked, Compared, IsWhole, comparison_of};
 ghost use Rattle.td_checked_meetings.specs.ForProofs as proofs;
 
 use crate::scope::MeetingScope;
 use std::alloc::{AllocError, Global};
 use td_comparison::{
-    Comparison, Findings, MessageError, SiteDigest, differing_sites, put_comparison,
-    put_differences, question, read_comparison, read_differences, script_digest,
+    Comparison, Differing, Findings, Hashed, MessageError, SiteDigest, SiteFeed, SitePrefixes,
+    differing_sites, put_comparison, put_differences, question, read_comparison, read_differences,
+    script_digest,
 };
+use td_digested_sites::Digested;
 use td_frames::FrameError;
 use td_io::{Failed, Sink};
 use td_meeting::MeetingError;
@@ -40,32 +43,55 @@ fn is_of_another<R: Replica>(site: &R, comparison: &Comparison) -> bool
 }
 
 // The version vector of what is held, and digests of its sites.
-fn own_question(alloc: Global, held: &Held) -> Result<(Vector, Vec<SiteDigest>), AllocError>
+fn own_question(
+    alloc: Global,
+    held: &Held,
+    known: &SitePrefixes,
+) -> Result<(Vector, Hashed), AllocError>
+    requires { ArePrefixesOf held.now.entries known.now }
     ensures vector { IfOk result (λ r. IsVector held.now.entries r.0) }
-    ensures digests { IfOk result (λ r. r.1.items ≡ question_of held.now.entries r.0) }
-    ensures few { IfOk result (λ r. length r.1.items ≤ 65535) }
+    ensures digests { IfOk result (λ r. r.1.digests.items ≡ question_of held.now.entries r.0) }
+    ensures few { IfOk result (λ r. length r.1.digests.items ≤ 65535) }
+    ensures feeds { IfOk result (λ r. AreHashed held.now.entries r.1.feeds.items) }
 {
     let vector = held.vector(alloc)?;
-    let digests = question(alloc, held, &vector)?;
-    Ok((vector, digests))
+    let hashed = question(alloc, held, known, &vector)?;
+    Ok((vector, hashed))
+}
+
+// Keeps what was hashed for a question, if nothing is kept yet. Else what is kept goes up to the numbers of the last
+// comparisons, which other sites have too; the numbers of a question may be greater.
+fn keep_first<R: Digested>(site: &mut R, feeds: Vec<SiteFeed>)
+    requires { AreHashed (R.seen site.old).entries feeds.items }
+    ensures seen { R.seen site.new ≡ R.seen site.old }
+    ensures journaled { R.journaled site.old → R.journaled site.new }
+{
+    if site.prefixes().is_empty() {
+        site.keep(feeds);
+    }
 }
 
 /// The first site writes a digest of what it holds of each site, and hands it on. Returns the version vector of what it
-/// holds.
-pub fn ask<R: Replica, K: Sink>(
+/// holds. It keeps what it hashed for that, if nothing is kept yet.
+pub fn ask<R: Digested, K: Sink>(
     alloc: Global,
-    site: &R,
+    site: &mut R,
     sink: &mut K,
 ) -> Result<Vector, MeetingError>
-    ensures { Asked (R.seen site.now) (K.held sink.old) result (K.held sink.new) }
+    ensures asks { Asked (R.seen site.old) (K.held sink.old) result (K.held sink.new) }
+    ensures seen { R.seen site.new ≡ R.seen site.old }
+    ensures journaled { R.journaled site.old → R.journaled site.new }
 {
     let Ok(held) = site.held() else {
         return Err(MeetingError::Broken);
     };
-    let Ok((vector, digests)) = own_question(alloc, held) else {
+    let Ok((vector, hashed)) = own_question(alloc, held, site.prefixes()) else {
         return Err(MeetingError::OutOfMemory);
     };
-    match send_comparison(site, &digests, sink) {
+    let Hashed { digests, feeds } = hashed;
+    let sent = send_comparison(site, &digests, sink);
+    keep_first(site, feeds);
+    match sent {
         Ok(()) => Ok(vector),
         Err(Failed) => Err(MeetingError::WriteFault { taken: 0 }),
     }
@@ -101,7 +127,7 @@ fn send_comparison<R: Replica, K: Sink>(
 }
 
 // What is answered to a comparison: nothing to one of another script, or of this site's number.
-fn answer_to<R: Replica>(
+fn answer_to<R: Digested>(
     alloc: Global,
     site: &R,
     held: &Held,
@@ -110,26 +136,31 @@ fn answer_to<R: Replica>(
 ) -> Result<Findings, AllocError>
     requires holding { held.now.entries ≡ (R.seen site.now).entries }
     requires rises { rises 0 (digest_sites comparison.now.digests.items) ≡ true }
-    ensures { IfOk result (λ f. proofs.FindsOf (R.seen site.now) vector.now comparison.now f) }
+    ensures finds { IfOk result (λ f. proofs.FindsOf (R.seen site.now) vector.now comparison.now f) }
+    ensures feeds { IfOk result (λ f. AreHashed (R.seen site.now).entries f.feeds.items) }
 {
     if is_of_another(site, comparison) {
-        return td_comparison::answer(alloc, held, vector, &comparison.digests);
+        let known = site.prefixes();
+        return td_comparison::answer(alloc, held, known, vector, &comparison.digests);
     }
     Ok(Findings {
         digests: Vec::new(alloc),
         differing: Vec::new(alloc),
+        feeds: Vec::new(alloc),
     })
 }
 
 /// The second site reads the first one's digests, writes its own of the same sites, and hands them on. Returns the
-/// scope of the meeting, as far as it is known here.
-pub fn answer_question<R: Replica, K: Sink>(
+/// scope of the meeting, as far as it is known here. It keeps what it hashed for that.
+pub fn answer_question<R: Digested, K: Sink>(
     alloc: Global,
-    site: &R,
+    site: &mut R,
     question: &[u8],
     sink: &mut K,
 ) -> Result<MeetingScope, MeetingError>
-    ensures { AnsweredQuestion (R.seen site.now) question.now (K.held sink.old) result (K.held sink.new) }
+    ensures answers { AnsweredQuestion (R.seen site.old) question.now (K.held sink.old) result (K.held sink.new) }
+    ensures seen { R.seen site.new ≡ R.seen site.old }
+    ensures journaled { R.journaled site.old → R.journaled site.new }
 {
     let Ok(held) = site.held() else {
         return Err(MeetingError::Broken);
@@ -144,44 +175,57 @@ pub fn answer_question<R: Replica, K: Sink>(
     let Ok(answer) = answer_to(alloc, site, held, &vector, &comparison) else {
         return Err(MeetingError::OutOfMemory);
     };
-    match send_comparison(site, &answer.digests, sink) {
+    let Findings {
+        digests,
+        differing,
+        feeds,
+    } = answer;
+    let sent = send_comparison(site, &digests, sink);
+    site.keep(feeds);
+    match sent {
         Ok(()) => Ok(MeetingScope {
             vector,
-            left_out: answer.differing,
+            left_out: differing,
         }),
         Err(Failed) => Err(MeetingError::WriteFault { taken: 0 }),
     }
 }
 
 // The sites that differ by an answer: none by one of another script, or of this site's number.
-fn differing_by<R: Replica>(
+fn differing_by<R: Digested>(
     alloc: Global,
     site: &R,
     held: &Held,
     vector: &Vector,
     answer: &Comparison,
-) -> Result<Vec<u16>, AllocError>
+) -> Result<Differing, AllocError>
     requires holding { held.now.entries ≡ (R.seen site.now).entries }
     requires rises { rises 0 (digest_sites answer.now.digests.items) ≡ true }
-    ensures differ { IfOk result (λ v. proofs.Differ (R.seen site.now) vector.now answer.now v.items) }
-    ensures few { IfOk result (λ v. length v.items ≤ length answer.now.digests.items) }
+    ensures differ { IfOk result (λ d. proofs.Differ (R.seen site.now) vector.now answer.now d.sites.items) }
+    ensures few { IfOk result (λ d. length d.sites.items ≤ length answer.now.digests.items) }
+    ensures feeds { IfOk result (λ d. AreHashed (R.seen site.now).entries d.feeds.items) }
 {
     if is_of_another(site, answer) {
-        return differing_sites(alloc, held, vector, &answer.digests);
+        return differing_sites(alloc, held, site.prefixes(), vector, &answer.digests);
     }
-    Ok(Vec::new(alloc))
+    Ok(Differing {
+        sites: Vec::new(alloc),
+        feeds: Vec::new(alloc),
+    })
 }
 
 /// The first site reads the second one's digests, and writes which sites differ. The vector is the one that `ask`
-/// returned. It flushes nothing: the greeting follows.
-pub fn compare<R: Replica, K: Sink>(
+/// returned. It keeps what it hashed to find them. It flushes nothing: the greeting follows.
+pub fn compare<R: Digested, K: Sink>(
     alloc: Global,
-    site: &R,
+    site: &mut R,
     vector: Vector,
     answer: &[u8],
     sink: &mut K,
 ) -> Result<MeetingScope, MeetingError>
-    ensures { Compared (R.seen site.now) vector answer.now (K.held sink.old) result (K.held sink.new) }
+    ensures compares { Compared (R.seen site.old) vector answer.now (K.held sink.old) result (K.held sink.new) }
+    ensures seen { R.seen site.new ≡ R.seen site.old }
+    ensures journaled { R.journaled site.old → R.journaled site.new }
 {
     let Ok(held) = site.held() else {
         return Err(MeetingError::Broken);
@@ -190,11 +234,16 @@ pub fn compare<R: Replica, K: Sink>(
         Ok(comparison) => comparison,
         Err(error) => return Err(unread(error)),
     };
-    let Ok(left_out) = differing_by(alloc, site, held, &vector, &comparison) else {
+    let Ok(differing) = differing_by(alloc, site, held, &vector, &comparison) else {
         return Err(MeetingError::OutOfMemory);
     };
-    match put_differences(sink, &left_out) {
-        Ok(()) => Ok(MeetingScope { vector, left_out }),
+    let Differing { sites, feeds } = differing;
+    site.keep(feeds);
+    match put_differences(sink, &sites) {
+        Ok(()) => Ok(MeetingScope {
+            vector,
+            left_out: sites,
+        }),
         Err(Failed) => Err(MeetingError::WriteFault { taken: 0 }),
     }
 }

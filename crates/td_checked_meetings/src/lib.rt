@@ -4,21 +4,22 @@
 //! `settle` and `finish`, the meeting in the scope that it found.
 //!
 //! ```
-//! let vector = ask(alloc, &first, &mut sink)?;
-//! let mut scope = answer_question(alloc, &second, question, &mut sink)?;
-//! let near = compare(alloc, &first, vector, answer, &mut sink)?;
+//! let vector = ask(alloc, &mut first, &mut sink)?;
+//! let mut scope = answer_question(alloc, &mut second, question, &mut sink)?;
+//! let near = compare(alloc, &mut first, vector, answer, &mut sink)?;
 //! greet(&first, &near, &mut sink)?;
 //! add_differences(alloc, &mut scope, differences)?;
 //! ```
 //!
-//! Costs: a comparison takes a pass over what is held at each side, and SHA-256 of the frames of what both hold. The
-//! steps cost what those of td_meeting cost, and a pass over the entries that came.
+//! Costs: a comparison takes a pass over what is held at each side for the version vector, and what td_comparison takes
+//! for digests of what was not hashed before. The steps cost what those of td_meeting cost, and a pass over the entries
+//! that came.
 //!
 //! Definitions to trust, in `specs/`: Comparing, Laws, Scopes, Steps.
 //!
-//! td_checked_meetings sees a site as a `Replica`, and messages as bytes. Between the steps of one meeting its caller
-//! keeps a `MeetingScope`; between two meetings nothing is kept. What a caller does about sites that differ is its own
-//! affair.
+//! td_checked_meetings sees a site as a `Replica`, in a comparison as `Digested`, and messages as bytes. Between the
+//! steps of one meeting its caller keeps a `MeetingScope`; between two meetings the site alone keeps what was hashed.
+//! What a caller does about sites that differ is its own affair.
 #![tactic(auto)]
 
 mod comparing;

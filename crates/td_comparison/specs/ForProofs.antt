@@ -1,28 +1,29 @@
 -- Words that only proofs and private functions use.
-use Rattle.std.specs.Prelude.{ℕ, Bool, not, ◌&&◌, ◌||◌, ◌==◌, List, [], ◌∷◌, if◌then◌else◌, map}
-use Rattle.std.specs.List.{AllByRecursion}
+use Rattle.std.specs.Prelude.{ℕ, Bool, false, not, ◌&&◌, ◌||◌, ◌==◌, List, [], ◌∷◌, if◌then◌else◌, map}
+use Rattle.std.specs.BTreeMap as by_site
+use Rattle.std.specs.List.{filter}
+use Rattle.std.specs.Option.{option_map_or}
+use Rattle.std.specs.Ordering.{nat_cmp}
 use Rattle.std.specs.Str.{bytes_eq}
-use Rattle.sha2.specs.Hashers.{Holds256}
 use Rattle.td_stamps.specs.Vectors.{VersionVector, number_of}
-use Rattle.td_stamps.specs.declared.entry.Entry.{Entry}
-use Rattle.td_frames.specs.Spelling.{entry_frames}
-use Rattle.td_frames.specs.declared.version.Version.TheVariants.{Second}
-use Rattle.td_comparison.specs.Digests.{common, first_entries}
-use Rattle.td_comparison.specs.declared.digest.Feed.{Feed}
+use Rattle.td_comparison.specs.Digests.{common}
 use Rattle.td_comparison.specs.declared.digest.SiteDigest.{SiteDigest}
+use Rattle.td_comparison.specs.declared.digest.SiteFeed.{SiteFeed}
+use Rattle.td_comparison.specs.declared.prefixes.SitePrefixes.{SitePrefixes}
 
--- the hasher has taken the frames of those that count of these entries
-abbrev pub IsFed : List Entry → Feed → Type 0
-IsFed xs f = Holds256 f.hasher (entry_frames Second (first_entries f.site f.number xs))
-
-abbrev pub AreFed : List Entry → List Feed → Type 0
-AreFed xs fs = AllByRecursion (IsFed xs) fs
-
-abbrev pub feed_place : Feed → ℕ × ℕ
+abbrev pub feed_place : SiteFeed → ℕ × ℕ
 feed_place f = (f.site, f.number)
 
-abbrev pub feed_places : List Feed → List (ℕ × ℕ)
+abbrev pub feed_places : List SiteFeed → List (ℕ × ℕ)
 feed_places fs = map feed_place fs
+
+-- what is kept of the site goes up to this number
+abbrev pub is_hashed : SitePrefixes → ℕ × ℕ → Bool
+is_hashed known p = option_map_or (λ k. k.number == p.1) (by_site.get nat_cmp known.by_site p.0) false
+
+-- the places whose entries are not what is kept
+abbrev pub missing : SitePrefixes → List (ℕ × ℕ) → List (ℕ × ℕ)
+missing known ps = filter (λ p. not (is_hashed known p)) ps
 
 abbrev pub place_sites : List (ℕ × ℕ) → List ℕ
 place_sites ps = map (λ p. p.0) ps

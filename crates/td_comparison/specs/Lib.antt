@@ -2,4 +2,5 @@
 pub mod Digests
 pub mod Messages
 pub mod Extents
+pub mod Hashed
 pub mod ForProofs

@@ -2,9 +2,11 @@
 
 ghost use Rattle.std.specs.Prelude.{◌≡◌, ◌≤◌, true, length, IfOk, map};
 ghost use Rattle.td_comparison.specs.Digests.{answers_to, differing, known_to_differ, question_of, rises, site_digest, digest_sites};
+ghost use Rattle.td_comparison.specs.Hashed.{AreHashed, ArePrefixesOf};
 ghost use Rattle.td_comparison.specs.ForProofs.{common_place, is_unequal, sites_unequal, with_number};
 
-use crate::digest::{SiteDigest, digests_of};
+use crate::digest::{Hashed, SiteDigest, SiteFeed, hash_places};
+use crate::prefixes::SitePrefixes;
 use std::alloc::{AllocError, Global};
 use td_stamps::{Held, Vector};
 
@@ -15,15 +17,32 @@ pub struct Findings {
     pub digests: Vec<SiteDigest>,
     /// The sites that are known here to differ.
     pub differing: Vec<u16>,
+    /// What was hashed for that.
+    pub feeds: Vec<SiteFeed>,
+}
+
+/// The sites that differ, by an answer.
+#[derive(Drop)]
+pub struct Differing {
+    pub sites: Vec<u16>,
+    /// What was hashed to find them.
+    pub feeds: Vec<SiteFeed>,
 }
 
 /// What a site asks another one with: a digest for each site of its version vector.
-pub fn question(alloc: Global, held: &Held, vector: &Vector) -> Result<Vec<SiteDigest>, AllocError>
-    ensures digests { IfOk result (λ v. v.items ≡ question_of held.now.entries vector.now) }
-    ensures few { IfOk result (λ v. length v.items ≤ 65535) }
+pub fn question(
+    alloc: Global,
+    held: &Held,
+    known: &SitePrefixes,
+    vector: &Vector,
+) -> Result<Hashed, AllocError>
+    requires { ArePrefixesOf held.now.entries known.now }
+    ensures digests { IfOk result (λ h. h.digests.items ≡ question_of held.now.entries vector.now) }
+    ensures few { IfOk result (λ h. length h.digests.items ≤ 65535) }
+    ensures feeds { IfOk result (λ h. AreHashed held.now.entries h.feeds.items) }
 {
     let places = vector.entries(alloc)?;
-    digests_of(alloc, held, &places)
+    hash_places(alloc, held, known, &places)
 }
 
 // The sites of these digests, each with the number up to which both have its entries.
@@ -46,14 +65,17 @@ fn common_places(
 fn common_digests(
     alloc: Global,
     held: &Held,
+    known: &SitePrefixes,
     vector: &Vector,
     digests: &[SiteDigest],
-) -> Result<Vec<SiteDigest>, AllocError>
-    requires { rises 0 (digest_sites digests.now) ≡ true }
-    ensures { IfOk result (λ v. v.items ≡ map (λ d. site_digest held.now.entries (common_place vector.now d)) digests.now) }
+) -> Result<Hashed, AllocError>
+    requires rises { rises 0 (digest_sites digests.now) ≡ true }
+    requires known { ArePrefixesOf held.now.entries known.now }
+    ensures digests { IfOk result (λ h. h.digests.items ≡ map (λ d. site_digest held.now.entries (common_place vector.now d)) digests.now) }
+    ensures feeds { IfOk result (λ h. AreHashed held.now.entries h.feeds.items) }
 {
     let places = common_places(alloc, vector, digests)?;
-    digests_of(alloc, held, &places)
+    hash_places(alloc, held, known, &places)
 }
 
 // Whether two digests of a site can be compared, and are not the same. A question's digest can where both are of one
@@ -107,29 +129,46 @@ fn with_numbers(
 pub fn answer(
     alloc: Global,
     held: &Held,
+    known: &SitePrefixes,
     vector: &Vector,
     digests: &[SiteDigest],
 ) -> Result<Findings, AllocError>
-    requires { rises 0 (digest_sites digests.now) ≡ true }
+    requires rises { rises 0 (digest_sites digests.now) ≡ true }
+    requires known { ArePrefixesOf held.now.entries known.now }
     ensures digests { IfOk result (λ a. a.digests.items ≡ answers_to held.now.entries vector.now digests.now) }
     ensures differing { IfOk result (λ a. a.differing.items ≡ known_to_differ held.now.entries vector.now digests.now) }
+    ensures feeds { IfOk result (λ a. AreHashed held.now.entries a.feeds.items) }
 {
-    let own = common_digests(alloc, held, vector, digests)?;
+    let Hashed {
+        digests: own,
+        feeds,
+    } = common_digests(alloc, held, known, vector, digests)?;
     let differing = unequal_sites(alloc, &own, digests, false)?;
     let digests = with_numbers(alloc, vector, &own)?;
-    Ok(Findings { digests, differing })
+    Ok(Findings {
+        digests,
+        differing,
+        feeds,
+    })
 }
 
 /// The sites that differ, by another site's answer, whose sites rise.
 pub fn differing_sites(
     alloc: Global,
     held: &Held,
+    known: &SitePrefixes,
     vector: &Vector,
     answer: &[SiteDigest],
-) -> Result<Vec<u16>, AllocError>
-    requires { rises 0 (digest_sites answer.now) ≡ true }
-    ensures { IfOk result (λ v. v.items ≡ differing held.now.entries vector.now answer.now) }
+) -> Result<Differing, AllocError>
+    requires rises { rises 0 (digest_sites answer.now) ≡ true }
+    requires known { ArePrefixesOf held.now.entries known.now }
+    ensures sites { IfOk result (λ d. d.sites.items ≡ differing held.now.entries vector.now answer.now) }
+    ensures feeds { IfOk result (λ d. AreHashed held.now.entries d.feeds.items) }
 {
-    let own = common_digests(alloc, held, vector, answer)?;
-    unequal_sites(alloc, &own, answer, true)
+    let Hashed {
+        digests: own,
+        feeds,
+    } = common_digests(alloc, held, known, vector, answer)?;
+    let sites = unequal_sites(alloc, &own, answer, true)?;
+    Ok(Differing { sites, feeds })
 }

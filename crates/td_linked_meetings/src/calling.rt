@@ -5,6 +5,7 @@ use crate::outcome::{MeetFault, MeetingResult};
 use std::alloc::Global;
 use td_checked_meetings::{MeetingScope, ask, compare, greet, settle, whole_scope};
 use td_comparison::{FirstMessage, is_other_version};
+use td_digested_sites::Digested;
 use td_frames::{FrameError, read_greeting};
 use td_io::{Channel, Device, Failed};
 use td_meeting::MeetingError;
@@ -25,9 +26,9 @@ fn read_answer<C: Channel>(inbox: &mut Inbox, link: &mut C) -> Result<usize, Mee
 }
 
 // Asks the other site, and writes which sites differ.
-fn compare_over<R: Replica, C: Channel>(
+fn compare_over<R: Digested, C: Channel>(
     alloc: Global,
-    site: &R,
+    site: &mut R,
     link: &mut C,
     inbox: &mut Inbox,
 ) -> Result<MeetingScope, MeetFault> {
@@ -47,9 +48,9 @@ fn compare_over<R: Replica, C: Channel>(
 }
 
 // Finds what is exchanged.
-fn scope_over<R: Replica, C: Channel>(
+fn scope_over<R: Digested, C: Channel>(
     alloc: Global,
-    site: &R,
+    site: &mut R,
     link: &mut C,
     inbox: &mut Inbox,
     first: FirstMessage,
@@ -100,7 +101,7 @@ fn exchange_greetings<R: Replica, C: Channel>(
 }
 
 /// Meets the site at the other end of a link that this site opened.
-pub fn call<R: Replica, C: Channel>(
+pub fn call<R: Digested, C: Channel>(
     alloc: Global,
     site: &mut R,
     link: &mut C,

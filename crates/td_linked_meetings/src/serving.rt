@@ -7,6 +7,7 @@ use td_checked_meetings::{
     MeetingScope, add_differences, answer, answer_question, finish, greet, whole_scope,
 };
 use td_comparison::is_other_version;
+use td_digested_sites::Digested;
 use td_frames::FrameError;
 use td_io::{Channel, Device, put};
 use td_meeting::MeetingError;
@@ -44,9 +45,9 @@ fn read_differences<C: Channel>(
 }
 
 // Answers the question that came, and reads which sites differ.
-fn answer_over<R: Replica, C: Channel>(
+fn answer_over<R: Digested, C: Channel>(
     alloc: Global,
-    site: &R,
+    site: &mut R,
     link: &mut C,
     inbox: &mut Inbox,
     end: usize,
@@ -66,9 +67,9 @@ fn answer_over<R: Replica, C: Channel>(
 }
 
 // Finds what is exchanged.
-fn scope_over<R: Replica, C: Channel>(
+fn scope_over<R: Digested, C: Channel>(
     alloc: Global,
-    site: &R,
+    site: &mut R,
     link: &mut C,
     inbox: &mut Inbox,
 ) -> Result<MeetingScope, MeetFault> {
@@ -130,7 +131,7 @@ fn exchange_greetings<R: Replica, C: Channel>(
 }
 
 /// Meets the site that opened this link, which compares digests first or does not.
-pub fn serve<R: Replica, C: Channel>(
+pub fn serve<R: Digested, C: Channel>(
     alloc: Global,
     site: &mut R,
     link: &mut C,

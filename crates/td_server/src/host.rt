@@ -4,6 +4,7 @@ use crate::token::open_token;
 use crate::words::ServerOptions;
 use std::alloc::AllocError;
 use td_alarms::Alarms;
+use td_digested_sites::DigestedSite;
 use td_io::Device;
 use td_journal::Keeper;
 use td_journal_files::{Notes, Synced};
@@ -19,7 +20,10 @@ use td_site_opening::{
 const ALARM_HINT: &str = ", and the button on the page ends them";
 
 /// A site that is kept in the file of its journal.
-pub(crate) type KeptSite<'a, R> = Keeper<R, Device<Synced<'a, HostRuntime>>>;
+pub(crate) type JournaledSite<'a, R> = Keeper<R, Device<Synced<'a, HostRuntime>>>;
+
+/// One that keeps what is hashed of it, too.
+pub(crate) type KeptSite<'a, R> = DigestedSite<JournaledSite<'a, R>>;
 
 /// What the server of a site goes by.
 #[derive(Clone, Copy)]

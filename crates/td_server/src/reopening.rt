@@ -3,6 +3,7 @@
 use crate::host::{Host, KeptSite, report_memory};
 use std::alloc::AllocError;
 use std::fs;
+use td_digested_sites::DigestedSite;
 use td_journal::keep_journal;
 use td_journal_files::{FileJournals, read_contents};
 use td_paths::replace_file;
@@ -65,7 +66,7 @@ impl<'a> Host<'a> {
         let journals = FileJournals::new(self.rt, self.notes).with_sums();
         let mut meter = Meter::new(self.rt);
         match keep_journal(alloc, &journals, self.journal, site, &mut meter) {
-            Ok(kept) => Some(kept),
+            Ok(kept) => Some(DigestedSite::new(alloc, kept)),
             Err(_) => None,
         }
     }

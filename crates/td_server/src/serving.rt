@@ -1,14 +1,15 @@
 //! A site that is served.
 
-use crate::host::{Host, KeptSite, report_memory};
+use crate::host::{Host, JournaledSite, KeptSite, report_memory};
 use crate::words::ServerOptions;
 use std::alloc::{AllocError, Global};
 use std::net::SocketAddr;
 use std::os::fd::AsRawFd;
 use td_changes::Changes;
+use td_digested_sites::{Digested, DigestedSite};
 use td_event_loop::{EventLoop, LoopOptions};
 use td_http_api::{Api, Guard};
-use td_replica::{Catalogued, Opens};
+use td_replica::{Catalogued, Opens, Replica};
 use td_site_desk::{SiteDesk, SiteServer};
 use td_site_opening::ExitStatus;
 
@@ -72,7 +73,7 @@ fn listen(rt: &HostRuntime, options: &ServerOptions<'_>) -> Option<EventLoop> {
 
 // Answers requests and meets other sites until the desk leaves, which is returned with the guard, or until the program
 // is to end: then its exit status is returned.
-fn run<'a, R: Changes + Catalogued + Drop>(
+fn run<'a, R: Changes + Catalogued + Digested + Drop>(
     rt: &HostRuntime,
     event_loop: &mut EventLoop,
     desk: SiteDesk<'a, R, HostRuntime>,
@@ -104,10 +105,10 @@ fn without_site<'a, R: Drop>(desk: SiteDesk<'a, R, HostRuntime>) -> SiteDesk<'a,
 fn suspended<'a, R: Opens + Drop>(
     host: Host<'a>,
     desk: SiteDesk<'a, (), HostRuntime>,
-) -> Result<SiteDesk<'a, R, HostRuntime>, ExitStatus> {
+) -> Result<SiteDesk<'a, DigestedSite<R>, HostRuntime>, ExitStatus> {
     let why = host.failure_text()?;
     let _ = println!(host.rt; "fault {why}");
-    let site = host.open_read::<R>()?;
+    let site = DigestedSite::new(host.rt.alloc(), host.open_read::<R>()?);
     let (_, mut desk) = desk.with_site(site);
     let until = desk.now().saturating_add(host.try_time());
     desk.suspend(why, until);
@@ -117,7 +118,7 @@ fn suspended<'a, R: Opens + Drop>(
 // A desk over a site that came back from its journal again.
 fn resumed<'a, R: Opens + Changes + Catalogued + Drop>(
     host: Host<'a>,
-    desk: SiteDesk<'a, R, HostRuntime>,
+    desk: SiteDesk<'a, DigestedSite<R>, HostRuntime>,
     site: KeptSite<'a, R>,
 ) -> Result<SiteDesk<'a, KeptSite<'a, R>, HostRuntime>, ExitStatus> {
     let Ok(is_lacking) = host.report_journal(&site) else {
@@ -153,14 +154,24 @@ fn await_journal<'a, R: Opens + Changes + Catalogued + Drop>(
     Err(host.give_up())
 }
 
+// The desk over a site that keeps what is hashed of it.
+fn digested<'a, R: Replica + Drop>(
+    rt: &HostRuntime,
+    desk: SiteDesk<'a, R, HostRuntime>,
+) -> SiteDesk<'a, DigestedSite<R>, HostRuntime> {
+    let (site, desk) = desk.with_site(());
+    let (_, desk) = desk.with_site(DigestedSite::new(rt.alloc(), site));
+    desk
+}
+
 // Serves a site that is kept in its journal, and goes on without one while that fails.
 fn run_kept<'a, R: Opens + Changes + Catalogued + Drop>(
     host: Host<'a>,
     event_loop: &mut EventLoop,
-    desk: SiteDesk<'a, KeptSite<'a, R>, HostRuntime>,
+    desk: SiteDesk<'a, JournaledSite<'a, R>, HostRuntime>,
     guard: Guard,
 ) -> Result<(), ExitStatus> {
-    let mut parts = (desk, guard);
+    let mut parts = (digested(host.rt, desk), guard);
     for _ in 0..u64::MAX {
         let (desk, guard) = run(host.rt, event_loop, parts.0, parts.1)?;
         parts = await_journal(host, event_loop, desk, guard)?;
@@ -173,7 +184,7 @@ fn serve_by<'a, R: Opens + Changes + Catalogued + Drop>(
     host: Host<'a>,
     event_loop: &mut EventLoop,
     token: &str,
-    desk: SiteDesk<'a, KeptSite<'a, R>, HostRuntime>,
+    desk: SiteDesk<'a, JournaledSite<'a, R>, HostRuntime>,
 ) -> ExitStatus {
     let Host { rt, options, .. } = host;
     let client = event_loop.client_address().unwrap_or(options.clients);
@@ -194,7 +205,7 @@ fn serve_by<'a, R: Opens + Changes + Catalogued + Drop>(
 pub(crate) fn serve<'a, R: Opens + Changes + Catalogued + Drop>(
     host: Host<'a>,
     token: &str,
-    desk: SiteDesk<'a, KeptSite<'a, R>, HostRuntime>,
+    desk: SiteDesk<'a, JournaledSite<'a, R>, HostRuntime>,
 ) -> ExitStatus {
     match listen(host.rt, host.options) {
         Some(mut event_loop) => serve_by(host, &mut event_loop, token, desk),

@@ -2,7 +2,7 @@
 
 ghost use Rattle.td_journal.specs.Reopening.{IsNew};
 
-use crate::host::{Host, KeptSite, report_memory};
+use crate::host::{Host, JournaledSite, report_memory};
 use crate::serving::serve;
 use crate::words::ServerOptions;
 use std::alloc::AllocError;
@@ -58,7 +58,7 @@ impl<'a> Host<'a> {
     fn serve_by_token<R: Opens + Changes + Catalogued + Drop>(
         self,
         token: &str,
-        site: KeptSite<'a, R>,
+        site: JournaledSite<'a, R>,
         meter: Meter,
     ) -> ExitStatus {
         let reversals = match self.open_reversals() {
@@ -78,7 +78,7 @@ impl<'a> Host<'a> {
     // Serves a site that came back from its journal.
     fn serve_kept<R: Opens + Changes + Catalogued + Drop>(
         self,
-        site: KeptSite<'a, R>,
+        site: JournaledSite<'a, R>,
         meter: Meter,
     ) -> ExitStatus {
         match self.open_token() {

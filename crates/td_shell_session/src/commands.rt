@@ -19,7 +19,7 @@ use std::rt::Files;
 use td_changes::Changes;
 use td_comparison::FirstMessage;
 use td_paths::read_plain;
-use td_replica::Catalogued;
+use td_replica::{Catalogued, Replica};
 use td_shell_input::DotCommand;
 use td_site_messages::{push_acknowledged, push_alarms, push_own_alarm};
 use td_stamps::Stamp;
@@ -92,7 +92,7 @@ fn answer_import<'t, R: Changes + Catalogued + Drop, P: Platform>(
 }
 
 // Lets go of the alarms of a site, and says how many there were.
-fn acknowledge<R: Drop, H: Files>(
+fn acknowledge<R: Replica + Drop, H: Files>(
     out: &mut String,
     host: &H,
     session: &mut Session<R>,

@@ -17,7 +17,7 @@ use std::{mem, str};
 use td_changes::Changes;
 use td_io::{Sink, put, write_all};
 use td_listings::{ListingError, listing};
-use td_replica::Catalogued;
+use td_replica::{Catalogued, Replica};
 use td_shell_input::{DotCommand, Standing, command_of};
 use td_site_messages::{SiteFault, push_own_alarm};
 

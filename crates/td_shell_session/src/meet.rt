@@ -12,6 +12,7 @@ use td_answers::{LinkError, Links};
 use td_changes::Changes;
 use td_checked_meetings::Received;
 use td_comparison::FirstMessage;
+use td_digested_sites::Digested;
 use td_io::{Device, Sink, put};
 use td_journal_files::Notes;
 use td_linked_meetings::{MeetFault, MeetingResult, call, serve};
@@ -58,7 +59,7 @@ fn report_waiting<F: Sink>(alloc: Global, address: &str, faults: &mut F) -> Resu
 }
 
 // Opens a link at the address, as the way is, and meets the site at its other end.
-fn meet_over<R: Replica, L: Links>(
+fn meet_over<R: Digested, L: Links>(
     alloc: Global,
     site: &mut R,
     links: &mut L,

@@ -6,13 +6,14 @@ use crate::draft::Draft;
 use crate::fault::{Fault, PlainFault};
 use crate::inputs::Inputs;
 use std::alloc::Global;
+use td_digested_sites::DigestedSite;
 use td_replica::Replica;
 use td_shell_input::Mode;
 
 /// A site, and how far the conversation at it is.
 #[derive(Drop)]
-pub(crate) struct Session<R: Drop> {
-    pub site: R,
+pub(crate) struct Session<R: Replica + Drop> {
+    pub site: DigestedSite<R>,
     pub access: Access,
     pub companions: Companions,
     pub inputs: Inputs,
@@ -26,7 +27,7 @@ pub(crate) struct Session<R: Drop> {
     pub has_faults: bool,
 }
 
-impl<R: Drop> Session<R> {
+impl<R: Replica + Drop> Session<R> {
     /// A conversation at a site in which nothing was said yet.
     pub(crate) fn new(
         alloc: Global,
@@ -37,7 +38,7 @@ impl<R: Drop> Session<R> {
         is_prompted: bool,
     ) -> Session<R> {
         Session {
-            site,
+            site: DigestedSite::new(alloc, site),
             access,
             companions,
             inputs,

@@ -17,6 +17,7 @@ use std::rt::Runtime;
 use td_changes::Changes;
 use td_checked_meetings::{MeetingScope, Received, add_differences, whole_scope};
 use td_comparison::{FirstMessage, is_other_version};
+use td_digested_sites::Digested;
 use td_event_loop::{MeetingOutcome, MeetingReport, Outbox, PeerRefusal, StepResult};
 use td_meeting::MeetingError;
 use td_replica::Catalogued;
@@ -63,7 +64,9 @@ impl<R: Changes + Catalogued + Drop, H: Runtime + AllocGlobal> SiteDesk<'_, R, H
             self.tell_line("fault file: the list of reversed statements cannot be written\n");
         }
     }
+}
 
+impl<R: Changes + Catalogued + Digested + Drop, H: Runtime + AllocGlobal> SiteDesk<'_, R, H> {
     // Notes why a step failed, and returns what follows.
     fn fail(&mut self, meeting: usize, error: MeetingError) -> StepResult
         ensures { R.seen self.new.site ≡ R.seen self.old.site }
@@ -115,7 +118,7 @@ impl<R: Changes + Catalogued + Drop, H: Runtime + AllocGlobal> SiteDesk<'_, R, H
         if self.scopes.is_plain(peer, self.now) {
             return self.open_plain(meeting, out);
         }
-        match ask_into(self.alloc, &self.site, out) {
+        match ask_into(self.alloc, &mut self.site, out) {
             Ok(vector) => {
                 self.scopes.keep(meeting, MeetingState::Asked(vector));
                 Some(FirstMessage::Question)
@@ -152,7 +155,7 @@ impl<R: Changes + Catalogued + Drop, H: Runtime + AllocGlobal> SiteDesk<'_, R, H
         if is_other_version(question) {
             return self.refuse_version(meeting, out);
         }
-        match answer_question_into(self.alloc, &self.site, question, out) {
+        match answer_question_into(self.alloc, &mut self.site, question, out) {
             Ok(scope) => {
                 self.scopes.keep(meeting, MeetingState::InScope(scope));
                 StepResult::Continue
@@ -196,7 +199,7 @@ impl<R: Changes + Catalogued + Drop, H: Runtime + AllocGlobal> SiteDesk<'_, R, H
             self.note_unanswered(meeting, peer);
             return StepResult::Stop;
         }
-        match compare_into(self.alloc, &self.site, vector, answer, out) {
+        match compare_into(self.alloc, &mut self.site, vector, answer, out) {
             Ok(scope) => {
                 self.scopes.note_compared(peer);
                 self.scopes.keep(meeting, MeetingState::InScope(scope));

@@ -14,6 +14,7 @@ use std::net::SocketAddr;
 use std::rt::Runtime;
 use td_changes::Changes;
 use td_comparison::FirstMessage;
+use td_digested_sites::Digested;
 use td_event_loop::{
     MeetingOutcome, MeetingReport, Meets, Outbox, PeerRefusal, Server, StepResult,
 };
@@ -60,7 +61,8 @@ impl<R: Changes + Catalogued + Drop, H: Runtime + AllocGlobal> Service for SiteS
     }
 }
 
-impl<R: Changes + Catalogued + Drop, H: Runtime + AllocGlobal> Meets for SiteServer<'_, R, H> {
+impl<R: Changes + Catalogued + Digested + Drop, H: Runtime + AllocGlobal> Meets
+    for SiteServer<'_, R, H> {
     ghost keeps = { λ old new. R.seen new.api.desk.site ≡ R.seen old.api.desk.site };
 
     ghost settles = { λ old reply step new.
@@ -122,7 +124,8 @@ impl<R: Changes + Catalogued + Drop, H: Runtime + AllocGlobal> Meets for SiteSer
     }
 }
 
-impl<R: Changes + Catalogued + Drop, H: Runtime + AllocGlobal> Server for SiteServer<'_, R, H> {
+impl<R: Changes + Catalogued + Digested + Drop, H: Runtime + AllocGlobal> Server
+    for SiteServer<'_, R, H> {
     fn answered(&self) -> u64 {
         self.answered
     }

@@ -1,11 +1,13 @@
 //! The steps of a meeting over bytes in memory.
 
+ghost use Rattle.std.specs.Prelude.{◌≡◌};
 ghost use Rattle.td_site_desk.specs.Meetings.{FinishesBytes, SettlesBytes};
 
 use std::alloc::Global;
 use td_checked_meetings::{
     MeetingScope, Received, answer, answer_question, ask, compare, finish, greet, settle,
 };
+use td_digested_sites::Digested;
 use td_event_loop::Outbox;
 use td_frames::read_greeting;
 use td_io::Device;
@@ -15,32 +17,38 @@ use td_semantics::Meter;
 use td_stamps::Vector;
 
 /// Appends the digests of what the site holds to what is to be sent. Returns the version vector of that.
-pub(crate) fn ask_into<R: Replica>(
+pub(crate) fn ask_into<R: Digested>(
     alloc: Global,
-    site: &R,
+    site: &mut R,
     out: &mut Outbox,
-) -> Result<Vector, MeetingError> {
+) -> Result<Vector, MeetingError>
+    ensures { R.seen site.new ≡ R.seen site.old }
+{
     ask(alloc, site, &mut Device::new(out))
 }
 
 /// Reads a question, and appends the answer. Returns the scope of the meeting, as far as it is known here.
-pub(crate) fn answer_question_into<R: Replica>(
+pub(crate) fn answer_question_into<R: Digested>(
     alloc: Global,
-    site: &R,
+    site: &mut R,
     question: &[u8],
     out: &mut Outbox,
-) -> Result<MeetingScope, MeetingError> {
+) -> Result<MeetingScope, MeetingError>
+    ensures { R.seen site.new ≡ R.seen site.old }
+{
     answer_question(alloc, site, question, &mut Device::new(out))
 }
 
 /// Reads an answer, and appends which sites differ and the greeting of the site. Returns the scope of the meeting.
-pub(crate) fn compare_into<R: Replica>(
+pub(crate) fn compare_into<R: Digested>(
     alloc: Global,
-    site: &R,
+    site: &mut R,
     vector: Vector,
     answer: &[u8],
     out: &mut Outbox,
-) -> Result<MeetingScope, MeetingError> {
+) -> Result<MeetingScope, MeetingError>
+    ensures { R.seen site.new ≡ R.seen site.old }
+{
     let mut sink = Device::new(out);
     let scope = match compare(alloc, site, vector, answer, &mut sink) {
         Ok(scope) => scope,

@@ -1,5 +1,5 @@
 //! The union of two lists of entries, by a sort.
-ghost use Rattle.std.specs.Prelude.{◌≡◌, ◌≢◌, ◌==◌, ◌<◌, ◌++◌, ℕ, [], true, false, if◌then◌else◌, vec_len, vec_capacity, slice_index, IfOk, OnOk, MatchOption, option_map, None};
+ghost use Rattle.std.specs.Prelude.{◌≡◌, ◌≢◌, ◌==◌, ◌<◌, ◌≤◌, ◌++◌, ℕ, [], true, false, length, if◌then◌else◌, vec_len, vec_capacity, slice_index, IfOk, OnOk, MatchOption, option_map, None};
 ghost use Rattle.std.specs.List.{list_all, list_any};
 ghost use Rattle.std.specs.List.Sorted.{IsPermutation, IsSortedBy};
 ghost use Rattle.td_stamps.specs.Entries.{before, clash, in_range};
@@ -159,7 +159,7 @@ fn without_repeats(alloc: Global, sorted: Vec<Entry>) -> Result<Option<Vec<Entry
 }
 
 /// The number of a site in a list of numbers by sites: 0 past the list's end.
-fn number_at(numbers: &[u32], site: u16) -> u32
+pub(crate) fn number_at(numbers: &[u32], site: u16) -> u32
     ensures { result ≡ slice_index numbers.now site }
 {
     numbers.get(usize::from(site)).copied().unwrap_or(0)
@@ -167,8 +167,13 @@ fn number_at(numbers: &[u32], site: u16) -> u32
 
 /// Gives a site a number. The list grows as far as the greatest site: to 65,536 numbers at most,
 /// which are 256 KiB.
-fn set_number_at(numbers: &mut Vec<u32>, site: u16, number: u32) -> Result<(), AllocError>
-    ensures { OnOk result ((other : ℕ) → slice_index numbers.new.items other ≡ (if site == other then number else slice_index numbers.old.items other)) }
+pub(crate) fn set_number_at(
+    numbers: &mut Vec<u32>,
+    site: u16,
+    number: u32,
+) -> Result<(), AllocError>
+    ensures few { length numbers.old.items ≤ 65536 → length numbers.new.items ≤ 65536 }
+    ensures numbers { OnOk result ((other : ℕ) → slice_index numbers.new.items other ≡ (if site == other then number else slice_index numbers.old.items other)) }
 {
     let place = usize::from(site);
     if numbers.len() <= place {

@@ -1,12 +1,14 @@
 //! Version vectors: up to which sequence number each site's entries are held without a gap.
-ghost use Rattle.std.specs.Prelude.{◌≡◌, ◌≤◌, ◌↔◌, true, not, if◌then◌else◌, IfOk, OnOk, OnErr, IsTrue};
+ghost use Rattle.std.specs.Prelude.{◌≡◌, ◌≤◌, ◌↔◌, ℕ, true, not, if◌then◌else◌, length, slice_index, IfOk, OnOk, OnErr, IsTrue};
 ghost use Rattle.std.specs.FinMap as map;
 ghost use Rattle.std.specs.List.{list_all};
 ghost use Rattle.td_stamps.specs.Entries.{in_range};
 ghost use Rattle.td_stamps.specs.Sets.{is_set};
 ghost use Rattle.td_stamps.specs.Vectors.{IsVector, number_of, after_vector, from_one, sites_fit};
+ghost use Rattle.td_stamps.specs.ForProofs.{AreNumbers, nonzero};
 
 use crate::entry::Entry;
+use crate::merge::{number_at, set_number_at};
 use std::alloc::{AllocError, Global};
 use std::collections::BTreeMap;
 use std::marker::Model;
@@ -31,6 +33,23 @@ impl Model for Vector {
     ghost view = { λ v. map.from_sorted v.numbers.entries };
 
     ghost invariant = { λ v. T (map.is_sorted nat_cmp v.numbers.entries) × (from_one v.numbers.entries ≡ true) };
+}
+
+// The number of each site of a set up to which it has all, at the site's place.
+fn numbers_of(alloc: Global, entries: &[Entry]) -> Result<Vec<u32>, AllocError>
+    requires set { is_set entries.now ≡ true }
+    requires ranges { list_all in_range entries.now ≡ true }
+    ensures numbers { IfOk result (λ v. AreNumbers entries.now v.items) }
+    ensures few { IfOk result (λ v. length v.items ≤ 65536) }
+{
+    let mut numbers = Vec::new(alloc);
+    for entry in entries {
+        // A site's numbers ascend, so one that leaves a gap isn't followed by what fills it.
+        if entry.seq - 1 == number_at(&numbers, entry.site) {
+            set_number_at(&mut numbers, entry.site, entry.seq)?;
+        }
+    }
+    Ok(numbers)
 }
 
 impl Vector {
@@ -107,11 +126,20 @@ impl Vector {
         requires ranges { list_all in_range entries.now ≡ true }
         ensures { IfOk result (IsVector entries.now) }
     {
+        let numbers = numbers_of(alloc, entries)?;
+        Vector::from_numbers(alloc, &numbers)
+    }
+
+    // The vector of the numbers that are not 0, each at its site's place. No site has the number 0.
+    fn from_numbers(alloc: Global, numbers: &[u32]) -> Result<Vector, AllocError>
+        requires few { length numbers.now ≤ 65536 }
+        requires first { slice_index numbers.now 0 ≡ 0 }
+        ensures { IfOk result (λ v. (site : ℕ) → map.get v site ≡ nonzero (slice_index numbers.now site)) }
+    {
         let mut vector = Vector::new(alloc);
-        for entry in entries {
-            // A site's numbers ascend, so one that leaves a gap isn't followed by what fills it.
-            if entry.seq - 1 == vector.number(entry.site) {
-                vector.set(entry.site, entry.seq)?;
+        for site in 1..numbers.len() {
+            if numbers[site] > 0 {
+                vector.set(site as u16, numbers[site])?;
             }
         }
         Ok(vector)

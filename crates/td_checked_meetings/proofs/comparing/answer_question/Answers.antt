@@ -7,8 +7,8 @@ use Rattle.td_checked_meetings.specs.Comparing.{comparison_of}
 use Rattle.td_checked_meetings.proofs.Comparisons.{answers}
 use Rattle.td_checked_meetings.proofs.comparing.answer_question.Goals as goal
 
-pub returns-in-Ok-send_comparison : goal.returns-in-Ok-send_comparison
-returns-in-Ok-send_comparison g c =
+pub returns-in-Ok-sent-clause-answers : goal.returns-in-Ok-sent-clause-answers
+returns-in-Ok-sent-clause-answers g c =
     let s = g.R.Replica.seen c.args.site.now in
     let f = c.in-Ok-answer_to.answer in
     let live : s.live ≡ true = search rules in
@@ -16,12 +16,12 @@ returns-in-Ok-send_comparison g c =
       live,
       c.in-Ok-read_comparison.ensures.ok.0,
       f.digests.items,
-      answers s c.in-Ok-vector.vector c.args.question.now c.in-Ok-read_comparison.comparison f own c.in-Ok-read_comparison.ensures.ok.1 c.in-Ok-answer_to.ensures,
-      subst (λ (l : List SiteDigest). Appends (g.K.Sink.held c.args.sink.now) (g.K.Sink.held c.send_comparison.new.sink) (comparison_of s l)) c.deref.ensures.value c.in-Ok-send_comparison.ensures,
+      answers s c.in-Ok-vector.vector c.args.question.now c.in-Ok-read_comparison.comparison f own c.in-Ok-read_comparison.ensures.ok.1 c.in-Ok-answer_to.ensures.finds,
+      subst (λ (l : List SiteDigest). Appends (g.K.Sink.held c.args.sink.now) (g.K.Sink.held c.send_comparison-sent.new.sink) (comparison_of s l)) c.deref.ensures.value c.in-Ok-sent.ensures,
     )
 
-pub returns : goal.returns
-returns g c =
+pub returns-clause-answers : goal.returns-clause-answers
+returns-clause-answers g c =
     let s = g.R.Replica.seen c.args.site.now in
     let f = c.in-Ok-answer_to.answer in
     let live : s.live ≡ true = search rules in
@@ -30,7 +30,7 @@ returns g c =
       c.in-Ok-read_comparison.ensures.ok.0,
       record { vector = c.in-Ok-vector.vector; left_out = f.differing },
       f.digests.items,
-      answers s c.in-Ok-vector.vector c.args.question.now c.in-Ok-read_comparison.comparison f own c.in-Ok-read_comparison.ensures.ok.1 c.in-Ok-answer_to.ensures,
-      subst (λ (l : List SiteDigest). AppendsFront (g.K.Sink.held c.args.sink.now) (g.K.Sink.held c.send_comparison.new.sink) (comparison_of s l)) c.deref.ensures.value c.in-Err-send_comparison.ensures,
+      answers s c.in-Ok-vector.vector c.args.question.now c.in-Ok-read_comparison.comparison f own c.in-Ok-read_comparison.ensures.ok.1 c.in-Ok-answer_to.ensures.finds,
+      subst (λ (l : List SiteDigest). AppendsFront (g.K.Sink.held c.args.sink.now) (g.K.Sink.held c.send_comparison-sent.new.sink) (comparison_of s l)) c.deref.ensures.value c.in-Err-sent.ensures,
       refl,
     )

@@ -85,5 +85,5 @@ loop-entry-preserved c =
       seen = rw append_assoc seen;
       clear = step.0;
       items = pushed ∙ step.1;
-      latest = λ site. latest_push c.loop-entry.latest.items c.set_number_at.new.numbers.items out e (λ q. c.loop-entry.invariant.latest q ∙ ap (last_seq q) c.loop-entry.invariant.items) high c.in_ok-set_number_at.ensures site ∙ sym (ap (last_seq site) pushed);
+      latest = λ site. latest_push c.loop-entry.latest.items c.set_number_at.new.numbers.items out e (λ q. c.loop-entry.invariant.latest q ∙ ap (last_seq q) c.loop-entry.invariant.items) high c.in_ok-set_number_at.ensures.numbers site ∙ sym (ap (last_seq site) pushed);
     }
