@@ -22,6 +22,10 @@ pub record IsAnswer (answer : Answer) (response : Response) : Type 0 where
 abbrev pub Answering : Type 0 → Type 1
 Answering D = D → ApiCall → Option Answer → D → Type 0
 
+-- why a desk takes no statements, if it takes none
+abbrev pub Failing : Type 0 → Type 0
+Failing D = D → Option (List ℕ)
+
 -- an answer begins with this
 pub record IsBegun (out : Written) : Type 0 where
   pub before : out.before ≡ []

@@ -6,7 +6,7 @@ use Rattle.http_server.specs.declared.response.Response.{Response}
 use Rattle.http_uri.specs.Uri.{uri_path}
 use Rattle.td_http_api.specs.declared.calls.ApiCall.{ApiCall}
 use Rattle.td_http_api.specs.declared.guard.Guard.{Guard}
-use Rattle.td_http_api.specs.Answers.{Answer, Answering, IsAnswer, health_answer}
+use Rattle.td_http_api.specs.Answers.{Answer, Answering, Failing, IsAnswer, health_answer}
 use Rattle.td_http_api.specs.Guards.{Admits}
 use Rattle.td_http_api.specs.Requests.{AsksFor}
 
@@ -42,23 +42,22 @@ pub record ShowsPage {D : Type 0} (old : D) (request : Request (List ℕ)) (new 
   pub path : uri_path (head_of request).uri ≡ codes "/"
   pub kept : new ≡ old
 
--- whether the site takes statements, for which no token is asked
-pub record ShowsHealth {D : Type 0} (old : D) (request : Request (List ℕ)) (response : Response) (new : D) : Type 0 where
+-- whether the desk takes statements, for which no token is asked
+pub record ShowsHealth {D : Type 0} (failing : Failing D) (old : D) (request : Request (List ℕ)) (response : Response) (new : D) : Type 0 where
   pub path : uri_path (head_of request).uri ≡ codes "/api/health"
-  pub failure : Option (List ℕ)
-  pub answer : IsAnswer (health_answer failure) response
+  pub answer : IsAnswer (health_answer (failing old)) response
   pub kept : new ≡ old
 
--- A response is the page, whether the site takes statements, a fault that leaves the desk as it was, the desk's answer
+-- A response is the page, whether the desk takes statements, a fault that leaves the desk as it was, the desk's answer
 -- to the call that a request asks for which is let in, or an empty 503 where memory ran out.
-abbrev pub Serves : {D : Type 0} → Answering D → Guard → D → Request (List ℕ) → Response → D → Type 0
-Serves answers guard old request response new =
+abbrev pub Serves : {D : Type 0} → Answering D → Failing D → Guard → D → Request (List ℕ) → Response → D → Type 0
+Serves answers failing guard old request response new =
     ShowsPage old request new
-    ⊎ (ShowsHealth old request response new
+    ⊎ (ShowsHealth failing old request response new
     ⊎ (RespondsWithFault old response new
     ⊎ (Responds (MayCall guard request) answers old response new
     ⊎ (IsAnswer (record { status = 503; text = [] }) response × LacksMemory (MayCall guard request) answers old new))))
 
 -- a call keeps the guard, and serves the request
-abbrev pub Leads : {D : Type 0} → Answering D → Guard → D → Request (List ℕ) → Response → Guard → D → Type 0
-Leads answers guard old request response kept new = (kept ≡ guard) × Serves answers guard old request response new
+abbrev pub Leads : {D : Type 0} → Answering D → Failing D → Guard → D → Request (List ℕ) → Response → Guard → D → Type 0
+Leads answers failing guard old request response kept new = (kept ≡ guard) × Serves answers failing guard old request response new

@@ -216,7 +216,7 @@ impl<D: Desk> Api<D> {
         requires { IsBlank response.old }
         ensures guard { self.new.guard ≡ self.old.guard }
         ensures ok { OnOk result (ShowsPage self.old.desk request.now self.new.desk
-            ⊎ (ShowsHealth self.old.desk request.now response.new self.new.desk
+            ⊎ (ShowsHealth D.failing self.old.desk request.now response.new self.new.desk
             ⊎ ComesTo (MayCall self.old.guard request.now) D.answers self.old.desk response.new
             self.new.desk)) }
         ensures err { OnErr result (LacksMemory (MayCall self.old.guard request.now) D.answers
@@ -242,7 +242,7 @@ impl<D: Desk> Api<D> {
 
 impl<D: Desk> Service for Api<D> {
     ghost answers = { λ old request response new.
-        Leads D.answers old.guard old.desk request response new.guard new.desk };
+        Leads D.answers D.failing old.guard old.desk request response new.guard new.desk };
 
     fn call(
         &mut self,

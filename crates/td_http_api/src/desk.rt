@@ -1,6 +1,6 @@
 //! The site that answers calls.
 
-ghost use Rattle.std.specs.Prelude.{◌≡◌, Option};
+ghost use Rattle.std.specs.Prelude.{◌≡◌, ℕ, List, Option, option_copied};
 ghost use Rattle.std.specs.Fmt.{signed_decimal};
 ghost use Rattle.json.specs.Token.{number, string};
 ghost use Rattle.json.specs.Written.{Writes};
@@ -27,6 +27,9 @@ pub trait Desk {
     // From the first state a call is answered so, and leaves the second. There is no answer where memory ran out.
     ghost answers: { Self → ApiCall → Option Answer → Self → Type 0 };
 
+    // Why the site takes no statements; none where it takes them.
+    ghost failing: { Self → Option (List ℕ) };
+
     /// Makes a call. Where the answer is an object, its members are appended. The error is that no memory was left for
     /// an answer: the call itself may have been made.
     fn make(&mut self, call: &ApiCall<'_>, out: &mut Writer) -> Result<DeskAnswer, AllocError>
@@ -34,7 +37,8 @@ pub trait Desk {
         ensures { answers self.old call.now (given_answer result out.new) self.new };
 
     /// Why the site takes no statements; none where it takes them. Everyone may read it, so it has no data of the site.
-    fn failure(&self) -> Option<&str>;
+    fn failure(&self) -> Option<&str>
+        ensures { option_copied result ≡ failing self.now };
 }
 
 /// The greatest integer up to which a program that reads numbers as doubles tells all apart.

@@ -2,7 +2,7 @@
 
 /// One script and one style, told by their digests, nothing from elsewhere, and calls to this site alone.
 pub(crate) const POLICY: &str = "default-src 'none'; \
-    script-src 'sha256-kOmcuZzBsJo5PdsC02pd28oHsSNCXd+4ym/zzbU9SfU='; \
+    script-src 'sha256-izWHa75FsEhxgaUfsd/mAO0tb3T0UQlQ7pePZ1C85PU='; \
     style-src 'sha256-HTyxlaeNlyoxQ/dcNaaescyj1dNobVmquuAy4PmmmvQ='; \
     img-src data:; connect-src 'self'; base-uri 'none'; form-action 'none'; frame-ancestors 'none'; \
     require-trusted-types-for 'script'; trusted-types 'none'";
@@ -92,6 +92,7 @@ async function call(path, body) {
   try { answer = await reply.json(); } catch (e) { }
   if (answer === null) answer = { fault: 'status ' + reply.status };
   if (reply.status === 401) answer.fault = 'Open the address that the program printed, with its token.';
+  answer.status = reply.status;
   return answer;
 }
 
@@ -167,8 +168,8 @@ async function runStatement(text) {
   if (!unanswered || unanswered.text !== text) unanswered = { text, key: newKey() };
   const reply = await call('/api/statement', unanswered);
   if (reply.fault && !reply.stamp) {
-    // A 503 with no words may come behind the statement, so that it keeps its key.
-    if (reply.fault !== 'status 503') unanswered = null;
+    // A 503 may come after the statement was issued, so that it keeps its key.
+    if (reply.status !== 503) unanswered = null;
     return showFault(reply.fault);
   }
   unanswered = null;
@@ -214,8 +215,9 @@ byId('text').onkeydown = e => {
 };
 byId('run').onclick = run;
 
+// A statement is edited without the comment of its key, since it gets a key of its own.
 function edit(text) {
-  byId('text').value = text;
+  byId('text').value = text.replace(/^\/\* [0-9a-f]{16} \*\/ /, '');
   byId('text').focus();
 }
 async function act(path, body) {

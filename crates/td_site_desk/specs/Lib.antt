@@ -1,3 +1,5 @@
 -- The definitions of the crate.
+pub mod ForProofs
+pub mod Laws
 pub mod Meetings
 pub mod Sites

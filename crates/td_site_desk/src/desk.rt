@@ -1,11 +1,10 @@
 //! The site that answers requests.
 
-ghost use Rattle.std.specs.Prelude.{◌≡◌};
-ghost use Rattle.td_site_desk.specs.Sites.{Changes};
+ghost use Rattle.std.specs.Prelude.{◌≡◌, option_copied, option_map, string_bytes};
+ghost use Rattle.td_site_desk.specs.Sites.{Changes, failing_of};
 
 use crate::console::PartialLine;
 use crate::inquiries::SiteView;
-use crate::keys::Keys;
 use crate::meetings::Meetings;
 use crate::reversals::Reversals;
 use crate::scopes::Scopes;
@@ -60,7 +59,6 @@ pub struct SiteDesk<'a, R: Drop, H> {
     pub(crate) wish: Option<SocketAddr>,
     pub(crate) meetings: Meetings,
     pub(crate) scopes: Scopes,
-    pub(crate) keys: Keys,
     pub(crate) reversals: Reversals,
     pub(crate) alarms: Alarms,
     pub(crate) console: PartialLine,
@@ -109,7 +107,6 @@ impl<'a, R: Changes + Catalogued + Drop, H: Runtime + AllocGlobal> SiteDesk<'a, 
             wish: None,
             meetings: Meetings::new(alloc)?,
             scopes,
-            keys: Keys::new(alloc),
             reversals,
             alarms,
             console: PartialLine::new(),
@@ -119,6 +116,23 @@ impl<'a, R: Changes + Catalogued + Drop, H: Runtime + AllocGlobal> SiteDesk<'a, 
             is_stopping: false,
             now: 0,
         })
+    }
+
+    /// Why the site takes no statements; none where it takes them.
+    pub(crate) fn failing_words(&self) -> Option<&str>
+        ensures { option_copied result ≡ failing_of
+            (option_map (λ it. string_bytes it.why) self.entry.now.suspension)
+            (R.seen self.entry.now.site).live self.entry.now.is_lacking }
+    {
+        if let Some(why) = self.suspended() {
+            Some(why)
+        } else if !self.site.is_open() {
+            Some(BROKEN)
+        } else if self.is_lacking {
+            Some(LACKING)
+        } else {
+            None
+        }
     }
 
     /// Whether the program is to end.
@@ -272,9 +286,14 @@ impl<'a, R: Changes + Catalogued + Drop, H: Runtime + AllocGlobal> SiteDesk<'a, 
 }
 
 impl<R: Changes + Catalogued + Drop, H: Runtime + AllocGlobal> Desk for SiteDesk<'_, R, H> {
-    // No call changes the site but a statement, which is issued, or answered by a fault where it has no key.
+    // No call changes the site but a statement, which is answered by a fault where the site takes none.
     ghost answers = { λ old call answer new.
-        Changes call answer (R.seen old.site) (R.seen new.site) };
+        Changes (failing_of (option_map (λ it. string_bytes it.why) old.suspension)
+        (R.seen old.site).live old.is_lacking) call answer (R.seen old.site) (R.seen new.site) };
+
+    // It is suspended, its site is not open, or that lacks statements.
+    ghost failing = { λ desk. failing_of (option_map (λ it. string_bytes it.why) desk.suspension)
+        (R.seen desk.site).live desk.is_lacking };
 
     fn make(&mut self, call: &ApiCall<'_>, out: &mut Writer) -> Result<DeskAnswer, AllocError> {
         match *call {
@@ -291,7 +310,7 @@ impl<R: Changes + Catalogued + Drop, H: Runtime + AllocGlobal> Desk for SiteDesk
                 first,
                 count,
             } => members(self.query(text, at, Range { first, count }, out)),
-            ApiCall::Statement { text, key } => match self.issue_once(text, key, out) {
+            ApiCall::Statement { text, key } => match self.answer_statement(text, key, out) {
                 Ok(status) => Ok(DeskAnswer::Members(status)),
                 Err(error) => Err(error),
             },
@@ -303,14 +322,6 @@ impl<R: Changes + Catalogued + Drop, H: Runtime + AllocGlobal> Desk for SiteDesk
     }
 
     fn failure(&self) -> Option<&str> {
-        if let Some(why) = self.suspended() {
-            Some(why)
-        } else if !self.site.is_open() {
-            Some(BROKEN)
-        } else if self.is_lacking {
-            Some(LACKING)
-        } else {
-            None
-        }
+        self.failing_words()
     }
 }

@@ -1,5 +1,7 @@
 //! What a site is asked that stays as it was.
 
+ghost use Rattle.std.specs.Prelude.{◌≤◌};
+
 use crate::digests::write_digests;
 use crate::reversals::Reversals;
 use crate::values::{Range, write_heading, write_value};
@@ -48,8 +50,10 @@ fn status_of_past(error: PastError) -> StatusCode {
     }
 }
 
-// The status of the answer if outcomes are not known.
-fn status_of_tell(error: TellError) -> StatusCode {
+/// The status of the answer if outcomes are not known.
+pub(crate) fn status_of_tell(error: TellError) -> StatusCode
+    ensures { 400 ≤ result }
+{
     match error {
         TellError::Broken => StatusCode::INTERNAL_SERVER_ERROR,
         TellError::OutOfMemory => StatusCode::SERVICE_UNAVAILABLE,

@@ -9,10 +9,11 @@
 //! ```
 //!
 //! Costs: `SiteDesk::new` goes through the outcomes of all that is held. A request costs what the calls of the site
-//! cost that it makes, and a statement waits for the flush of its journal.
+//! cost that it makes, and a statement waits for the flush of its journal. With a key it also costs a search from
+//! the end of what is held (td_statement_keys), and where it is sent again the outcomes of all that is held.
 //!
 //! Its definitions stand in `specs/`: in Sites what a call does to the site, and with which status it is answered; in
-//! Meetings what the steps of a meeting do to it that are given entries.
+//! Meetings what the steps of a meeting do to it that are given entries; in Laws what holds over all statements.
 //!
 //! td_site_desk moves no bytes but those of the console. It changes a site by `Replica::issue` and by the steps of a
 //! meeting alone.
@@ -24,7 +25,7 @@ mod differing;
 mod digests;
 mod exchange;
 mod inquiries;
-mod keys;
+pub mod laws;
 mod meetings;
 mod received;
 mod reversals;

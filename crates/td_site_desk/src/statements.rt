@@ -1,23 +1,26 @@
 //! Statements that clients issue.
 
-ghost use Rattle.std.specs.Prelude.{◌≡◌, ◌⊎◌, ◌≤◌, IfOk, IfSome, option_copied};
+ghost use Rattle.std.specs.Prelude.{◌≡◌, ◌⊎◌, ◌≤◌, IfOk, Some, option_copied, option_map, string_bytes};
 ghost use Rattle.std.specs.Result.{result_ok};
-ghost use Rattle.td_site_desk.specs.Sites.{IsIssued, IsUnissued};
+ghost use Rattle.td_site_desk.specs.ForProofs.{IsToldBy};
+ghost use Rattle.td_site_desk.specs.Sites.{AnswersStatement, AnswersUnlessFailing, IsIssued, IsStatusBy, failing_of, known_entry};
+ghost use Rattle.td_statement_keys.specs.Keys.{entry_with, issued_text};
 
 use crate::desk::SiteDesk;
-use crate::inquiries::STAMP_WORDS;
-use crate::keys::KeyedText;
+use crate::inquiries::{STAMP_WORDS, status_of_tell};
 use crate::words::{
-    fault, fault_words, read_stamp, reason_of, write_stamp, write_text, write_truth,
+    fault, fault_words, is_same, read_stamp, reason_of, write_stamp, write_text, write_truth,
 };
 use std::alloc::{AllocError, Global};
 use std::rt::Runtime;
 use td_changes::Changes;
 use td_http_api::{StatusCode, Writer};
 use td_journal_files::SyncFailure;
-use td_replica::{Catalogued, IssueError, Issued};
-use td_site_messages::{LACKING, SiteFault, failure_words};
-use td_stamps::Stamp;
+use td_replica::{Catalogued, IssueError, Issued, MOST_BYTES, TellError};
+use td_semantics::Outcome;
+use td_site_messages::{BROKEN, LACKING, SiteFault, failure_words};
+use td_stamps::{Entry, Stamp};
+use td_statement_keys::{COMMENT_BYTES, find_keyed, key_comment, keyed_text};
 
 /// The most bytes of a key.
 const MOST_KEY_BYTES: usize = 128;
@@ -64,47 +67,52 @@ fn unwritten_words(alloc: Global, failure: Option<SyncFailure>) -> Result<String
     )
 }
 
-impl<R: Changes + Catalogued + Drop, H: Runtime + AllocGlobal> SiteDesk<'_, R, H> {
-    // Keeps what became of a statement. No answer reports that memory runs out here, since the site has taken the
-    // statement.
-    fn keep_issued(&mut self, issued: &Issued, keyed: Option<KeyedText>, reason: Option<&str>)
-        ensures { R.seen self.new.site ≡ R.seen self.old.site }
-    {
-        if reason.is_none() {
-            let _ = self.reversals.add_done(issued.stamp);
-        }
-        let Some(keyed) = keyed else {
-            return;
-        };
-        let copy = match reason {
-            None => Ok(None),
-            Some(reason) => match String::from_str(self.alloc, reason) {
-                Ok(reason) => Ok(Some(reason)),
-                Err(error) => Err(error),
-            },
-        };
-        if let Ok(reason) = copy {
-            let _ = self.keys.keep(keyed, issued.stamp, reason);
+// What is said of a statement under a key that is too long.
+fn long_words(alloc: Global, text: &str) -> Result<String, AllocError> {
+    let (most, bytes) = (MOST_BYTES - COMMENT_BYTES, text.len());
+    format!(in alloc;
+        "syntax: a statement with a key has at most {most} bytes, and this one has {bytes}"
+    )
+}
+
+// The outcome of this stamp, if there is one.
+fn outcome_at<'a>(outcomes: &'a [(Stamp, Outcome)], stamp: &Stamp) -> Option<&'a Outcome> {
+    for (it, outcome) in outcomes {
+        if is_same(it, stamp) {
+            return Some(outcome);
         }
     }
+    None
+}
 
-    // Answers what became of a statement that was issued.
-    fn tell_issued(
-        &mut self,
-        issued: &Issued,
-        keyed: Option<KeyedText>,
+impl<R: Changes + Catalogued + Drop, H: Runtime + AllocGlobal> SiteDesk<'_, R, H> {
+    // Answers what became of a statement, as the site has it now.
+    fn tell_outcome(
+        &self,
+        stamp: &Stamp,
+        outcome: &Outcome,
         out: &mut Writer,
     ) -> Result<StatusCode, AllocError>
-        ensures kept { R.seen self.new.site ≡ R.seen self.old.site }
-        ensures status { IfOk result (λ status. status ≡ 200) }
+        ensures { IfOk result (λ status. status ≡ 200) }
     {
-        let reason = reason_of(self.alloc, &issued.outcome)?;
+        let reason = reason_of(self.alloc, outcome)?;
         let words = match &reason {
             Some(reason) => Some(reason.as_str()),
             None => None,
         };
-        self.keep_issued(issued, keyed, words);
-        write_issued(self.alloc, out, &issued.stamp, words, self.warning())
+        write_issued(self.alloc, out, stamp, words, self.warning())
+    }
+
+    // Answers what became of a statement that was issued. A statement that is done is noted as such: no answer reports
+    // that memory runs out there, since the site has taken the statement.
+    fn tell_issued(&mut self, issued: &Issued, out: &mut Writer) -> Result<StatusCode, AllocError>
+        ensures kept { R.seen self.new.site ≡ R.seen self.old.site }
+        ensures status { IfOk result (λ status. status ≡ 200) }
+    {
+        if matches!(issued.outcome, Outcome::Done) {
+            let _ = self.reversals.add_done(issued.stamp);
+        }
+        self.tell_outcome(&issued.stamp, &issued.outcome, out)
     }
 
     // Why a statement is not issued.
@@ -132,76 +140,138 @@ impl<R: Changes + Catalogued + Drop, H: Runtime + AllocGlobal> SiteDesk<'_, R, H
         fault(out, status_of(error), words.as_str())
     }
 
-    // Issues a statement whose key, if it has one, is new here, and answers what became of it.
+    // Issues a text, and answers what became of it. Faults show the client's own text, which has no comment of a key.
     fn issue_new(
         &mut self,
+        issued: &str,
         text: &str,
-        keyed: Option<KeyedText>,
         out: &mut Writer,
     ) -> Result<StatusCode, AllocError>
-        ensures { IsIssued (R.seen self.old.site) text.now (result_ok result)
+        ensures { IsIssued (R.seen self.old.site) issued.now (result_ok result)
             (R.seen self.new.site) }
     {
-        match self.site.issue(self.alloc, text, &mut self.meter) {
-            Ok(issued) => self.tell_issued(&issued, keyed, out),
+        match self.site.issue(self.alloc, issued, &mut self.meter) {
+            Ok(issued) => self.tell_issued(&issued, out),
             Err(error) => self.tell_not_issued(text, error, out),
         }
     }
 
-    // Answers a statement that is not to be issued: one whose key was seen, or a fault.
-    fn tell_known(
-        &self,
-        text: &str,
-        key: Option<&str>,
-        out: &mut Writer,
-    ) -> Result<Option<StatusCode>, AllocError>
-        ensures { option_copied key.entry ≡ None
-            → IfOk result (λ known. IfSome known (λ status. 400 ≤ status)) }
+    // Answers that outcomes are not known.
+    fn tell_no_outcome(&self, error: TellError, out: &mut Writer) -> Result<StatusCode, AllocError>
+        ensures { IfOk result (λ status. 400 ≤ status) }
     {
-        if let Some(why) = self.suspended() {
-            return Ok(Some(fault(out, StatusCode::SERVICE_UNAVAILABLE, why)?));
-        }
-        if self.is_lacking {
-            return Ok(Some(fault(out, StatusCode::SERVICE_UNAVAILABLE, LACKING)?));
-        }
-        let Some(key) = key else {
-            return Ok(None);
-        };
-        if key.len() > MOST_KEY_BYTES {
-            let words = "a key has at most 128 bytes";
-            return Ok(Some(fault(out, StatusCode::BAD_REQUEST, words)?));
-        }
-        let Some(keyed) = self.keys.find(key) else {
-            return Ok(None);
-        };
-        if !keyed.has_text(text) {
-            let words = "another statement was issued under this key: nothing was issued now";
-            return Ok(Some(fault(out, StatusCode::CONFLICT, words)?));
-        }
-        let reason = match &keyed.reason {
-            Some(reason) => Some(reason.as_str()),
-            None => None,
-        };
-        let status = write_issued(self.alloc, out, &keyed.stamp, reason, self.warning())?;
-        Ok(Some(status))
+        let error_words = SiteFault::from(error);
+        let words = fault_words(self.alloc, self.site.catalogue(), self.notes, error_words)?;
+        fault(out, status_of_tell(error), words.as_str())
     }
 
-    /// Issues a statement, or gives the kept answer if its key was seen, or a fault if it is not to be issued.
-    pub(crate) fn issue_once(
+    // Answers what became of a statement that was issued earlier: its outcome is among those of all that is held.
+    fn tell_again(&self, stamp: &Stamp, out: &mut Writer) -> Result<StatusCode, AllocError>
+        ensures { IfOk result (λ status. (status ≡ 200) ⊎ (400 ≤ status)) }
+    {
+        let outcomes = match self.site.outcomes(self.alloc) {
+            Ok(outcomes) => outcomes,
+            Err(error) => return self.tell_no_outcome(error, out),
+        };
+        match outcome_at(&outcomes, stamp) {
+            Some(outcome) => self.tell_outcome(stamp, outcome, out),
+            None => fault(out, StatusCode::INTERNAL_SERVER_ERROR, BROKEN),
+        }
+    }
+
+    // Answers that an entry was issued under the key of this text: what became of it, if it has the text.
+    fn tell_known(
+        &self,
+        entry: &Entry,
+        issued: &str,
+        out: &mut Writer,
+    ) -> Result<StatusCode, AllocError>
+        ensures { IfOk result (IsStatusBy entry.now issued.now) }
+    {
+        if entry.text.as_str() != issued {
+            let words = "another statement was issued under this key: nothing was issued now";
+            return fault(out, StatusCode::CONFLICT, words);
+        }
+        self.tell_again(&entry.stamp(), out)
+    }
+
+    // Answers that the text is not to be issued, if that is so: its key was seen, or the site is not open.
+    fn tell_seen(
+        &self,
+        comment: &str,
+        issued: &str,
+        out: &mut Writer,
+    ) -> Result<Option<StatusCode>, AllocError>
+        ensures { IfOk result (IsToldBy (entry_with (R.seen self.entry.now.site).site comment.now
+            (R.seen self.entry.now.site).entries) issued.now) }
+    {
+        let Ok(held) = self.site.held() else {
+            return Ok(Some(fault(out, StatusCode::SERVICE_UNAVAILABLE, BROKEN)?));
+        };
+        match find_keyed(held.entries(), self.site.site(), comment) {
+            Some(entry) => Ok(Some(self.tell_known(entry, issued, out)?)),
+            None => Ok(None),
+        }
+    }
+
+    // Issues a statement under a key, or answers what became of the one that was issued under it.
+    fn issue_under(
+        &mut self,
+        key: &str,
+        text: &str,
+        out: &mut Writer,
+    ) -> Result<StatusCode, AllocError>
+        ensures { AnswersStatement (known_entry (R.seen self.old.site) (Some key.now))
+            (R.seen self.old.site) (issued_text (Some key.now) text.now) (result_ok result)
+            (R.seen self.new.site) }
+    {
+        if key.len() > MOST_KEY_BYTES {
+            return fault(out, StatusCode::BAD_REQUEST, "a key has at most 128 bytes");
+        }
+        let comment = key_comment(self.alloc, key)?;
+        let issued = keyed_text(self.alloc, comment.as_str(), text)?;
+        if issued.len() > MOST_BYTES {
+            let words = long_words(self.alloc, text)?;
+            return fault(out, StatusCode::UNPROCESSABLE_ENTITY, words.as_str());
+        }
+        match self.tell_seen(comment.as_str(), issued.as_str(), out)? {
+            Some(status) => Ok(status),
+            None => self.issue_new(issued.as_str(), text, out),
+        }
+    }
+
+    // Issues a statement, or answers what became of the one that was issued under its key, or why it is not issued.
+    fn issue_once(
         &mut self,
         text: &str,
         key: Option<&str>,
         out: &mut Writer,
     ) -> Result<StatusCode, AllocError>
-        ensures { IsIssued (R.seen self.old.site) text.now (result_ok result) (R.seen self.new.site)
-            ⊎ IsUnissued (R.seen self.old.site) (option_copied key.entry) (result_ok result)
-            (R.seen self.new.site) }
+        ensures { AnswersStatement (known_entry (R.seen self.old.site) (option_copied key.entry))
+            (R.seen self.old.site) (issued_text (option_copied key.entry) text.now)
+            (result_ok result) (R.seen self.new.site) }
     {
-        if let Some(status) = self.tell_known(text, key, out)? {
-            return Ok(status);
+        match key {
+            None => self.issue_new(text, text, out),
+            Some(key) => self.issue_under(key, text, out),
         }
-        let keyed = self.copy_of_keyed(text, key)?;
-        self.issue_new(text, keyed, out)
+    }
+
+    /// Answers a statement: where the site takes none, by the reason of that.
+    pub(crate) fn answer_statement(
+        &mut self,
+        text: &str,
+        key: Option<&str>,
+        out: &mut Writer,
+    ) -> Result<StatusCode, AllocError>
+        ensures { AnswersUnlessFailing (failing_of (option_map (λ it. string_bytes it.why) self.old.suspension)
+            (R.seen self.old.site).live self.old.is_lacking) (option_copied key.entry)
+            (R.seen self.old.site) text.now (result_ok result) (R.seen self.new.site) }
+    {
+        match self.failing_words() {
+            Some(why) => fault(out, StatusCode::SERVICE_UNAVAILABLE, why),
+            None => self.issue_once(text, key, out),
+        }
     }
 
     // Lets go of a reversed statement, if it is one of this site; returns whether it was there.
@@ -209,18 +279,6 @@ impl<R: Changes + Catalogued + Drop, H: Runtime + AllocGlobal> SiteDesk<'_, R, H
         ensures { R.seen self.new.site ≡ R.seen self.old.site }
     {
         stamp.site == self.site.site() && self.reversals.remove(stamp)
-    }
-
-    // Copies of a statement and its key, taken before it is issued; none if it has no key.
-    fn copy_of_keyed(
-        &self,
-        text: &str,
-        key: Option<&str>,
-    ) -> Result<Option<KeyedText>, AllocError> {
-        match key {
-            None => Ok(None),
-            Some(key) => Ok(Some(self.keys.copy(key, text)?)),
-        }
     }
 
     /// Takes a statement off the list of reversed ones, since a person has seen it, and writes the list anew.

@@ -1,6 +1,6 @@
 //! A site whose journal has failed: until that is open again, another site that was read from it answers queries.
 
-ghost use Rattle.std.specs.Prelude.{◌≡◌};
+ghost use Rattle.std.specs.Prelude.{◌≡◌, option_copied, option_map, string_bytes};
 
 use crate::desk::SiteDesk;
 use std::rt::Runtime;
@@ -14,7 +14,7 @@ const NO_MEETING: &str = "fault journal: this site meets none until its journal 
 /// Why a site issues nothing and meets none, and until when.
 #[derive(Drop)]
 pub(crate) struct Suspension {
-    why: String,
+    pub(crate) why: String,
     /// In milliseconds since the event loop began.
     until: u64,
 }
@@ -35,7 +35,6 @@ impl<'a, R: Drop, H> SiteDesk<'a, R, H> {
             wish: self.wish,
             meetings: self.meetings,
             scopes: self.scopes,
-            keys: self.keys,
             reversals: self.reversals,
             alarms: self.alarms,
             console: self.console,
@@ -66,7 +65,9 @@ impl<'a, R: Drop, H> SiteDesk<'a, R, H> {
     }
 
     /// Why the desk issues nothing and meets none, if that is so.
-    pub(crate) fn suspended(&self) -> Option<&str> {
+    pub(crate) fn suspended(&self) -> Option<&str>
+        ensures { option_copied result ≡ option_map (λ it. string_bytes it.why) self.entry.now.suspension }
+    {
         match &self.suspension {
             Some(suspension) => Some(suspension.why.as_str()),
             None => None,

@@ -1,0 +1,2 @@
+mod Keyed
+mod Told

@@ -1,0 +1,4 @@
+mod Comments
+mod Filters
+pub mod Found
+pub mod Once

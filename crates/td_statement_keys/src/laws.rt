@@ -1,0 +1,19 @@
+//! What holds over all statements that are issued under keys.
+
+ghost use Rattle.td_statement_keys.specs.Laws.{EachKeyActsOnce, FoundAreHeld, KeysFindTheirs};
+
+/// Over any statements that are issued under keys, and other changes that add none with a key to the site's own, a key
+/// has one statement at most among the last 1,000 with keys: each key acts once.
+pub fn each_key_acts_once()
+    ensures { EachKeyActsOnce }
+{}
+
+/// A statement that is one of the last 1,000 with keys is found by its key.
+pub fn keys_find_theirs()
+    ensures { KeysFindTheirs }
+{}
+
+/// What is found by a key is held, is a statement of the site, and begins with the key's comment.
+pub fn found_are_held()
+    ensures { FoundAreHeld }
+{}
