@@ -1,3 +1,4 @@
 -- The lemmas of the crate.
+mod FieldLemmas
 mod Tokens
 mod Weaker

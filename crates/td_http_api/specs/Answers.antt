@@ -6,6 +6,7 @@ use Rattle.json.specs.Token.{begin_object, end_object, boolean, key, string}
 use Rattle.json.specs.Written.{Written}
 use Rattle.td_http_api.specs.declared.calls.ApiCall.{ApiCall}
 use Rattle.td_http_api.specs.declared.desk.DeskAnswer.{DeskAnswer}
+use Rattle.td_http_api.specs.declared.desk.Revision.{Revision}
 use Rattle.td_http_api.specs.declared.desk.DeskAnswer.TheVariants.{Members, Table}
 
 -- a status, and the text of a body
@@ -25,6 +26,10 @@ Answering D = D → ApiCall → Option Answer → D → Type 0
 -- why a desk takes no statements, if it takes none
 abbrev pub Failing : Type 0 → Type 0
 Failing D = D → Option (List ℕ)
+
+-- of a desk, what it shows
+abbrev pub Revising : Type 0 → Type 0
+Revising D = D → Revision
 
 -- an answer begins with this
 pub record IsBegun (out : Written) : Type 0 where

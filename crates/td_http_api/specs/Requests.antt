@@ -1,5 +1,6 @@
 -- What a request asks for, by its method, its path, its query string and its body.
 use Rattle.std.specs.Prelude.{◌≡◌, ◌⊎◌, ℕ, Bool, true, false, List, [], ◌++◌, Option, Some, None, Ok, option_and_then, option_copied, unwrap_or, codes}
+use Rattle.std.specs.List.{list_all}
 use Rattle.std.specs.Str.Parse.{ParsesUnsigned}
 use Rattle.http.specs.declared.request.Request.{Request}
 use Rattle.http.specs.Request.{head_of, body_of}
@@ -8,27 +9,50 @@ use Rattle.json.specs.Find.{get, as_str, as_number}
 use Rattle.json.specs.Json.{Json, document}
 use Rattle.json.specs.Strict.{HasUniqueKeys}
 use Rattle.td_http_api.specs.declared.calls.ApiCall.{ApiCall}
-use Rattle.td_http_api.specs.declared.calls.ApiCall.TheVariants.{Site, Relvars, Table, Refused, Log, Script, Digest, Query, Statement, Acknowledge, AcknowledgeAlarms, Meet, Stop}
+use Rattle.td_http_api.specs.declared.calls.LogFilter.{LogFilter}
+use Rattle.td_http_api.specs.declared.calls.Selection.{Selection}
+use Rattle.td_http_api.specs.declared.calls.ApiCall.TheVariants.{Site, Relvars, Table, Refused, Log, Script, Schema, Digest, Query, Statement, Acknowledge, AcknowledgeAlarms, Meet, Stop}
 use Rattle.td_http_api.specs.declared.members.Member.{Member}
 use Rattle.td_http_api.specs.declared.members.Member.TheVariants as member
 use Rattle.td_http_api.specs.declared.resources.Resource.{Resource}
 use Rattle.td_http_api.specs.declared.resources.Resource.TheVariants as the
-use Rattle.td_http_api.specs.Members.{member_name}
+use Rattle.td_http_api.specs.Fields.{field_value, query_fields}
+use Rattle.td_http_api.specs.Members.{is_member_name, member_name}
+use Rattle.td_http_api.specs.Orders.{HasOrder}
 use Rattle.td_http_api.specs.Resources.{Allows, row_of}
 
 -- what follows the `?` of a path
 abbrev pub query_of : Request (List ℕ) → List ℕ
 query_of request = unwrap_or (uri_query (head_of request).uri) []
 
--- the query string of a flag
-abbrev pub flag_query : Member → Bool → List ℕ
-flag_query flag true = member_name flag
-flag_query flag false = []
+-- the names and values of a request's query string
+abbrev pub request_fields : Request (List ℕ) → List (List ℕ × List ℕ)
+request_fields request = query_fields (query_of request)
 
--- the query string of a text, if there is one
-abbrev pub text_query : Member → Option (List ℕ) → List ℕ
-text_query name None = []
-text_query name (Some text) = member_name name ++ (codes "=" ++ text)
+-- each field has the name of one of these members
+abbrev pub AreKnown : List Member → List (List ℕ × List ℕ) → Type 0
+AreKnown members fields = list_all (λ field. is_member_name members field.0) fields ≡ true
+
+-- a flag is a name without a value
+abbrev pub HasFlag : Member → List (List ℕ × List ℕ) → Bool → Type 0
+HasFlag name fields true = field_value (member_name name) fields ≡ Some []
+HasFlag name fields false = field_value (member_name name) fields ≡ None
+
+-- the number of a field, if there is the field
+abbrev pub HasNumber : Member → List (List ℕ × List ℕ) → Option ℕ → Type 0
+HasNumber name fields None = field_value (member_name name) fields ≡ None
+HasNumber name fields (Some n) =
+    (digits : List ℕ) × (field_value (member_name name) fields ≡ Some digits) × ParsesUnsigned {E = List ℕ} 64 10 digits (Ok n)
+
+-- each member of the filter is the field of its name
+pub record HasFilter (fields : List (List ℕ × List ℕ)) (filter : LogFilter) : Type 0 where
+  pub after : field_value (member_name member.After) fields ≡ option_copied filter.after
+  pub before : field_value (member_name member.Before) fields ≡ option_copied filter.before
+  pub relvar : field_value (member_name member.Relvar) fields ≡ option_copied filter.relvar
+  pub key : field_value (member_name member.Key) fields ≡ option_copied filter.key
+  pub author : field_value (member_name member.Author) fields ≡ option_copied filter.author
+  pub contains : field_value (member_name member.Contains) fields ≡ option_copied filter.contains
+  pub last : HasNumber member.Last fields filter.last
 
 -- the text of a member of a body
 abbrev pub member_text : Member → Json → Option (List ℕ)
@@ -41,23 +65,31 @@ HasCount name body (Some n) =
     (digits : List ℕ) × (option_and_then as_number (get (member_name name) body) ≡ Some digits)
     × ParsesUnsigned {E = List ℕ} 64 10 digits (Ok n)
 
--- for this resource the name in the path and the query string are those of the call
-abbrev pub GivesInQuery : Resource → List ℕ → List ℕ → ApiCall → Type 0
-GivesInQuery resource name query Site = (resource ≡ the.Site) × (query ≡ [])
-GivesInQuery resource name query (Relvars counts) = (resource ≡ the.Relvars) × (query ≡ flag_query member.Counts counts)
-GivesInQuery resource name query (Table relvar) = (resource ≡ the.Table) × (name ≡ relvar.now) × (query ≡ [])
-GivesInQuery resource name query Refused = (resource ≡ the.Refused) × (query ≡ [])
-GivesInQuery resource name query (Log after) = (resource ≡ the.Log) × (query ≡ text_query member.After (option_copied after))
-GivesInQuery resource name query Script = (resource ≡ the.Script) × (query ≡ [])
-GivesInQuery resource name query Digest = (resource ≡ the.Digest) × (query ≡ [])
-GivesInQuery resource name query _ = ⊥
+-- for this resource the name in the path and the fields of the query string are those of the call
+abbrev pub GivesInQuery : Resource → List ℕ → List (List ℕ × List ℕ) → ApiCall → Type 0
+GivesInQuery resource name fields Site = resource ≡ the.Site
+GivesInQuery resource name fields (Relvars counts) = (resource ≡ the.Relvars) × HasFlag member.Counts fields counts
+GivesInQuery resource name fields (Table relvar) = (resource ≡ the.Table) × (name ≡ relvar.now)
+GivesInQuery resource name fields Refused = resource ≡ the.Refused
+GivesInQuery resource name fields (Log filter) = (resource ≡ the.Log) × HasFilter fields filter
+GivesInQuery resource name fields Script = resource ≡ the.Script
+GivesInQuery resource name fields Schema = resource ≡ the.Schema
+GivesInQuery resource name fields Digest = resource ≡ the.Digest
+GivesInQuery resource name fields _ = ⊥
+
+-- the body says which tuples, and in which order
+pub record HasSelection (body : Json) (selection : Selection) : Type 0 where
+  pub order : HasOrder body selection.order.items
+  pub contains : member_text member.Contains body ≡ option_copied selection.contains
+  pub from : Option ℕ
+  pub first : HasCount member.First body from × (selection.first ≡ unwrap_or from 0)
+  pub count : HasCount member.Count body selection.count
 
 -- for this resource the members of the body are those of the call
 abbrev pub GivesInBody : Resource → Json → ApiCall → Type 0
-GivesInBody resource body (Query text at first count) =
+GivesInBody resource body (Query text at selection) =
     (resource ≡ the.Query) × (member_text member.Text body ≡ Some text.now) × (member_text member.At body ≡ option_copied at)
-    × ((from : Option ℕ) × HasCount member.First body from × (first ≡ unwrap_or from 0))
-    × HasCount member.Count body count
+    × HasSelection body selection
 GivesInBody resource body (Statement text key) =
     (resource ≡ the.Statement) × (member_text member.Text body ≡ Some text.now) × (member_text member.Key body ≡ option_copied key)
 GivesInBody resource body (Acknowledge stamp) = (resource ≡ the.Acknowledge) × (member_text member.Stamp body ≡ Some stamp.now)
@@ -76,7 +108,8 @@ pub record AsksByQuery (request : Request (List ℕ)) (call : ApiCall) : Type 0 
   pub resource : Resource
   pub name : List ℕ
   pub sent : IsFor resource name request
-  pub gives : GivesInQuery resource name (query_of request) call
+  pub known : AreKnown (row_of resource).members (request_fields request)
+  pub gives : GivesInQuery resource name (request_fields request) call
 
 -- what a request asks for by its body, which is one value of JSON, in which no object has a key twice
 pub record AsksByBody (request : Request (List ℕ)) (call : ApiCall) : Type 0 where

@@ -1,14 +1,14 @@
 -- The table of calls: where each one is, what it takes, and who may make it.
 use Rattle.std.specs.Prelude.{◌≡◌, ◌⊎◌, ℕ, List, [], ◌∷◌, ◌++◌, codes}
 use Rattle.td_http_api.specs.declared.members.Member.{Member}
-use Rattle.td_http_api.specs.declared.members.Member.TheVariants.{Counts, After, Text, At, First, Count, Key, Stamp, Address}
+use Rattle.td_http_api.specs.declared.members.Member.TheVariants.{Counts, After, Before, Last, Author, Contains, Text, At, Order, First, Count, Key, Stamp, Address}
 use Rattle.td_http_api.specs.declared.members.Member.TheVariants as member
 use Rattle.td_http_api.specs.declared.resources.Methods.{Methods}
 use Rattle.td_http_api.specs.declared.resources.Methods.TheVariants.{Get, GetAndHead, Post}
 use Rattle.td_http_api.specs.declared.resources.Path.{Path}
 use Rattle.td_http_api.specs.declared.resources.Path.TheVariants.{Whole, Around}
 use Rattle.td_http_api.specs.declared.resources.Resource.{Resource}
-use Rattle.td_http_api.specs.declared.resources.Resource.TheVariants.{Page, Health, Site, Relvars, Table, Refused, Log, Script, Digest, Query, Statement, Acknowledge, AcknowledgeAlarms, Meet, Stop}
+use Rattle.td_http_api.specs.declared.resources.Resource.TheVariants.{Page, Health, Site, Relvars, Table, Refused, Log, Script, Schema, Digest, Query, Statement, Acknowledge, AcknowledgeAlarms, Meet, Stop}
 use Rattle.td_http_api.specs.declared.resources.Right.{Right}
 use Rattle.td_http_api.specs.declared.resources.Right.TheVariants.{Everyone, Bearer}
 
@@ -46,10 +46,11 @@ row_of Site = row_by Get (codes "/api/site") []
 row_of Relvars = row_by Get (codes "/api/relvars") (Counts ∷ [])
 row_of Table = record { methods = Get; path = λ name. codes "/api/relvars/" ++ (name ++ codes ".csv"); right = Bearer; members = [] }
 row_of Refused = row_by Get (codes "/api/refused") []
-row_of Log = row_by Get (codes "/api/log") (After ∷ [])
+row_of Log = row_by Get (codes "/api/log") (After ∷ Before ∷ member.Relvar ∷ Key ∷ Author ∷ Contains ∷ Last ∷ [])
 row_of Script = row_by Get (codes "/api/script") []
+row_of Schema = row_by Get (codes "/api/schema") []
 row_of Digest = row_by Get (codes "/api/digest") []
-row_of Query = row_by Post (codes "/api/query") (Text ∷ At ∷ First ∷ Count ∷ [])
+row_of Query = row_by Post (codes "/api/query") (Text ∷ At ∷ Order ∷ Contains ∷ First ∷ Count ∷ [])
 row_of Statement = row_by Post (codes "/api/statement") (Text ∷ Key ∷ [])
 row_of Acknowledge = row_by Post (codes "/api/acknowledge") (Stamp ∷ [])
 row_of AcknowledgeAlarms = row_by Post (codes "/api/alarms/acknowledge") (member.Site ∷ [])

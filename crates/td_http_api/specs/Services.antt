@@ -5,10 +5,12 @@ use Rattle.http.specs.Request.{head_of}
 use Rattle.http_server.specs.declared.response.Response.{Response}
 use Rattle.http_uri.specs.Uri.{uri_path}
 use Rattle.td_http_api.specs.declared.calls.ApiCall.{ApiCall}
+use Rattle.td_http_api.specs.declared.desk.Revision.{Revision}
 use Rattle.td_http_api.specs.declared.guard.Guard.{Guard}
-use Rattle.td_http_api.specs.Answers.{Answer, Answering, Failing, IsAnswer, health_answer}
+use Rattle.td_http_api.specs.Answers.{Answer, Answering, Failing, IsAnswer, Revising, health_answer}
 use Rattle.td_http_api.specs.Guards.{Admits}
 use Rattle.td_http_api.specs.Requests.{AsksFor}
+use Rattle.td_http_api.specs.Tags.{NamesTag, tag_text}
 
 -- a fault: the desk is as it was
 pub record RespondsWithFault {D : Type 0} (old : D) (response : Response) (new : D) : Type 0 where
@@ -48,16 +50,29 @@ pub record ShowsHealth {D : Type 0} (failing : Failing D) (old : D) (request : R
   pub answer : IsAnswer (health_answer (failing old)) response
   pub kept : new ≡ old
 
--- A response is the page, whether the desk takes statements, a fault that leaves the desk as it was, the desk's answer
--- to the call that a request asks for which is let in, or an empty 503 where memory ran out.
-abbrev pub Serves : {D : Type 0} → Answering D → Failing D → Guard → D → Request (List ℕ) → Response → D → Type 0
-Serves answers failing guard old request response new =
+-- the tag that a request names is that of the revision
+pub record IsUnchanged {D : Type 0} (revision : Revision) (old : D) (request : Request (List ℕ)) (response : Response) (new : D) : Type 0 where
+  pub named : NamesTag request (tag_text revision)
+  pub answer : IsAnswer (record { status = 304; text = [] }) response
+  pub kept : new ≡ old
+
+-- what the sender of a request has, which is let in, is as it was
+pub record ShowsUnchanged {D : Type 0} (revision : Revising D) (guard : Guard) (old : D) (request : Request (List ℕ)) (response : Response) (new : D) : Type 0 where
+  pub admits : Admits guard request
+  pub unchanged : IsUnchanged (revision old) old request response new
+
+-- A response is the page, whether the desk takes statements, that nothing changed, a fault that leaves the desk as it
+-- was, the desk's answer to the call that a request asks for which is let in, or an empty 503 where memory ran out.
+abbrev pub Serves : {D : Type 0} → Answering D → Failing D → Revising D → Guard → D → Request (List ℕ) → Response → D → Type 0
+Serves answers failing revision guard old request response new =
     ShowsPage old request new
     ⊎ (ShowsHealth failing old request response new
+    ⊎ (ShowsUnchanged revision guard old request response new
     ⊎ (RespondsWithFault old response new
     ⊎ (Responds (MayCall guard request) answers old response new
-    ⊎ (IsAnswer (record { status = 503; text = [] }) response × LacksMemory (MayCall guard request) answers old new))))
+    ⊎ (IsAnswer (record { status = 503; text = [] }) response × LacksMemory (MayCall guard request) answers old new)))))
 
 -- a call keeps the guard, and serves the request
-abbrev pub Leads : {D : Type 0} → Answering D → Failing D → Guard → D → Request (List ℕ) → Response → Guard → D → Type 0
-Leads answers failing guard old request response kept new = (kept ≡ guard) × Serves answers failing guard old request response new
+abbrev pub Leads : {D : Type 0} → Answering D → Failing D → Revising D → Guard → D → Request (List ℕ) → Response → Guard → D → Type 0
+Leads answers failing revision guard old request response kept new =
+    (kept ≡ guard) × Serves answers failing revision guard old request response new

@@ -2,21 +2,23 @@
 
 ghost use Rattle.std.specs.Prelude.{◌≡◌, ◌⊎◌, ◌≤◌, IfOk, OnErr, OnOk};
 ghost use Rattle.http.specs.Request.{head_of};
-ghost use Rattle.http_server.specs.Response.{IsBlank};
 ghost use Rattle.json.specs.Value.{value_view};
 ghost use Rattle.td_http_api.specs.Answers.{IsAnswer, IsBegun, object_text};
 ghost use Rattle.td_http_api.specs.Guards.{Holds};
 ghost use Rattle.td_http_api.specs.Requests.{AsksFor, GivesInBody, IsFor, query_of};
 ghost use Rattle.td_http_api.specs.Resources.{row_of};
-ghost use Rattle.td_http_api.specs.Services.{ComesTo, LacksMemory, Leads, MayCall, ShowsHealth, ShowsPage};
+ghost use Rattle.td_http_api.specs.Services.{ComesTo, IsUnchanged, LacksMemory, Leads, MayCall, ShowsHealth, ShowsPage, ShowsUnchanged};
+ghost use Rattle.td_http_api.specs.Tags.{IsUnanswered};
 
 use crate::arguments::{call_of_body, call_of_query};
 use crate::calls::ApiCall;
 use crate::desk::{Desk, DeskAnswer};
 use crate::fault::Fault;
+use crate::fields::fields_of;
 use crate::guard::{Guard, check_type};
 use crate::resources::{Description, Methods, Resource, Right, Target, target_at};
 use crate::responses::{put_fault, put_health, put_json, put_page, put_table};
+use crate::tags::{names_tag, put_tag, put_unchanged, tag_text};
 use bytes::Bytes;
 use http::{Request, StatusCode};
 use http_server::{Response, Service};
@@ -47,7 +49,7 @@ fn end_answer(
     status: StatusCode,
     mut out: Writer,
 ) -> Result<(), AllocError>
-    requires { IsBlank response.old }
+    requires { IsUnanswered response.old }
     ensures { OnOk result (IsAnswer (record { status = status; text = object_text out })
         response.new) }
 {
@@ -93,7 +95,7 @@ impl<D: Desk> Api<D> {
 
     // Answers with a fault, in words and with its status.
     fn refuse(&self, response: &mut Response, fault: &Fault<'_>) -> Result<(), AllocError>
-        requires { IsBlank response.old }
+        requires { IsUnanswered response.old }
         ensures { OnOk result (400 ≤ response.new.status) }
     {
         put_fault(self.alloc, response, fault)
@@ -101,7 +103,7 @@ impl<D: Desk> Api<D> {
 
     // Answers with what the desk answers to a call.
     fn make_call(&mut self, call: &ApiCall<'_>, response: &mut Response) -> Result<(), AllocError>
-        requires { IsBlank response.old }
+        requires { IsUnanswered response.old }
         ensures guard { self.new.guard ≡ self.old.guard }
         ensures ok { OnOk result (ComesTo (λ made. made ≡ call.now) D.answers self.old.desk
             response.new self.new.desk) }
@@ -122,7 +124,7 @@ impl<D: Desk> Api<D> {
         request: &Request<Bytes>,
         response: &mut Response,
     ) -> Result<(), AllocError>
-        requires blank { IsBlank response.old }
+        requires unanswered { IsUnanswered response.old }
         requires sent { IsFor target.resource target.name.now request.now }
         ensures guard { self.new.guard ≡ self.old.guard }
         ensures ok { OnOk result (ComesTo (AsksFor request.now) D.answers self.old.desk response.new
@@ -130,10 +132,35 @@ impl<D: Desk> Api<D> {
         ensures err { OnErr result (LacksMemory (AsksFor request.now) D.answers self.old.desk
             self.new.desk) }
     {
-        match call_of_query(target, query_string(request)) {
+        let fields = fields_of(self.alloc, query_string(request))?;
+        match call_of_query(target, &fields) {
             Ok(call) => self.make_call(&call, response),
             Err(fault) => self.refuse(response, &fault),
         }
+    }
+
+    // Answers a GET: with what it asks for, or that what its sender has is as it was.
+    fn answer_get(
+        &mut self,
+        target: Target<'_>,
+        request: &Request<Bytes>,
+        response: &mut Response,
+    ) -> Result<(), AllocError>
+        requires unanswered { IsUnanswered response.old }
+        requires sent { IsFor target.resource target.name.now request.now }
+        ensures guard { self.new.guard ≡ self.old.guard }
+        ensures ok { OnOk result (IsUnchanged (D.revision self.old.desk) self.old.desk request.now
+            response.new self.new.desk
+            ⊎ ComesTo (AsksFor request.now) D.answers self.old.desk response.new self.new.desk) }
+        ensures err { OnErr result (LacksMemory (AsksFor request.now) D.answers self.old.desk
+            self.new.desk) }
+    {
+        let tag = tag_text(self.alloc, self.desk.revision())?;
+        put_tag(self.alloc, response, tag.as_str())?;
+        if names_tag(request, tag.as_str()) {
+            return put_unchanged(response);
+        }
+        self.answer_query(target, request, response)
     }
 
     // Answers the call that a body makes. The body has to be strict JSON, and the request has to say that it is JSON.
@@ -143,7 +170,7 @@ impl<D: Desk> Api<D> {
         request: &Request<Bytes>,
         response: &mut Response,
     ) -> Result<(), AllocError>
-        requires blank { IsBlank response.old }
+        requires unanswered { IsUnanswered response.old }
         requires sent { IsFor target.resource target.name.now request.now }
         ensures guard { self.new.guard ≡ self.old.guard }
         ensures ok { OnOk result (ComesTo (AsksFor request.now) D.answers self.old.desk response.new
@@ -174,14 +201,14 @@ impl<D: Desk> Api<D> {
         body: &Value<'_>,
         response: &mut Response,
     ) -> Result<(), AllocError>
-        requires { IsBlank response.old }
+        requires { IsUnanswered response.old }
         ensures guard { self.new.guard ≡ self.old.guard }
         ensures ok { OnOk result (ComesTo (GivesInBody resource (value_view body.now)) D.answers
             self.old.desk response.new self.new.desk) }
         ensures err { OnErr result (LacksMemory (GivesInBody resource (value_view body.now))
             D.answers self.old.desk self.new.desk) }
     {
-        match call_of_body(resource, body) {
+        match call_of_body(self.alloc, resource, body) {
             Ok(call) => self.make_call(&call, response),
             Err(fault) => self.refuse(response, &fault),
         }
@@ -213,12 +240,14 @@ impl<D: Desk> Api<D> {
         request: &Request<Bytes>,
         response: &mut Response,
     ) -> Result<(), AllocError>
-        requires { IsBlank response.old }
+        requires { IsUnanswered response.old }
         ensures guard { self.new.guard ≡ self.old.guard }
         ensures ok { OnOk result (ShowsPage self.old.desk request.now self.new.desk
             ⊎ (ShowsHealth D.failing self.old.desk request.now response.new self.new.desk
+            ⊎ (ShowsUnchanged D.revision self.old.guard self.old.desk request.now response.new
+            self.new.desk
             ⊎ ComesTo (MayCall self.old.guard request.now) D.answers self.old.desk response.new
-            self.new.desk)) }
+            self.new.desk))) }
         ensures err { OnErr result (LacksMemory (MayCall self.old.guard request.now) D.answers
             self.old.desk self.new.desk) }
     {
@@ -235,14 +264,14 @@ impl<D: Desk> Api<D> {
             Right::Bearer if methods == Methods::Post => {
                 self.answer_body(target, request, response)
             }
-            Right::Bearer => self.answer_query(target, request, response),
+            Right::Bearer => self.answer_get(target, request, response),
         }
     }
 }
 
 impl<D: Desk> Service for Api<D> {
     ghost answers = { λ old request response new.
-        Leads D.answers D.failing old.guard old.desk request response new.guard new.desk };
+        Leads D.answers D.failing D.revision old.guard old.desk request response new.guard new.desk };
 
     fn call(
         &mut self,

@@ -1,27 +1,19 @@
 //! The arguments of a call, in a query string or in a body.
 
-ghost use Rattle.std.specs.Prelude.{◌≡◌, Some, IfOk, option_copied};
+ghost use Rattle.std.specs.Prelude.{◌≡◌, Some, IfOk, IsOk, map, option_copied};
 ghost use Rattle.json.specs.Value.{value_view};
-ghost use Rattle.td_http_api.specs.Requests.{GivesInBody, GivesInQuery, HasCount, flag_query, member_text, text_query};
+ghost use Rattle.td_http_api.specs.Fields.{field_texts};
+ghost use Rattle.td_http_api.specs.Resources.{row_of};
+ghost use Rattle.td_http_api.specs.Requests.{AreKnown, GivesInBody, GivesInQuery, HasCount, HasFilter, HasFlag, HasNumber, HasSelection, member_text};
 
-use crate::calls::ApiCall;
+use crate::calls::{ApiCall, LogFilter, Selection};
 use crate::fault::Fault;
+use crate::fields::{check_fields, field_value};
 use crate::members::{Member, is_known};
+use crate::orders::order_of;
 use crate::resources::{Resource, Target};
 use json::Value;
-
-// Refuses a query string whose member is none of these.
-fn check_query<'a>(query: &'a str, members: &[Member]) -> Result<(), Fault<'a>> {
-    let name = match query.split_once('=') {
-        Some((name, _)) => name,
-        None => query,
-    };
-    if query.is_empty() || is_known(members, name) {
-        Ok(())
-    } else {
-        Err(Fault::Query(query))
-    }
-}
+use std::alloc::Global;
 
 // Refuses a body that is no object or has a member that is none of these.
 fn check_body<'a>(body: &Value<'a>, members: &[Member]) -> Result<(), Fault<'a>> {
@@ -36,33 +28,43 @@ fn check_body<'a>(body: &Value<'a>, members: &[Member]) -> Result<(), Fault<'a>>
     Ok(())
 }
 
-// Whether a query string is this flag, or empty.
-fn query_flag(query: &str, member: Member) -> Result<bool, Fault<'_>>
-    ensures { IfOk result (λ flag. query.now ≡ flag_query member flag) }
+// Whether a query string has this flag.
+fn flag_of(fields: &[(String, String)], member: Member) -> Result<bool, Fault<'static>>
+    ensures { IfOk result (HasFlag member (map field_texts fields.now)) }
 {
-    if query.is_empty() {
-        Ok(false)
-    } else if query == member.name() {
-        Ok(true)
-    } else {
-        Err(Fault::Query(query))
+    match field_value(fields, member) {
+        None => Ok(false),
+        Some("") => Ok(true),
+        Some(_) => Err(Fault::NoValue(member.name())),
     }
 }
 
-// The text of a query string that has this member alone, or is empty.
-fn query_text(query: &str, member: Member) -> Result<Option<&str>, Fault<'_>>
-    ensures { IfOk result (λ text. query.now ≡ text_query member (option_copied text)) }
+// The number of a field, where there is one.
+fn number_of(fields: &[(String, String)], member: Member) -> Result<Option<u64>, Fault<'static>>
+    ensures { IfOk result (HasNumber member (map field_texts fields.now)) }
 {
-    if query.is_empty() {
-        return Ok(None);
+    match field_value(fields, member) {
+        None => Ok(None),
+        Some(digits) => match digits.parse::<u64>() {
+            Ok(n) => Ok(Some(n)),
+            Err(_) => Err(Fault::NoNumber(member.name())),
+        },
     }
-    let Some(rest) = query.strip_prefix(member.name()) else {
-        return Err(Fault::Query(query));
-    };
-    match rest.strip_prefix("=") {
-        Some(text) => Ok(Some(text)),
-        None => Err(Fault::Query(query)),
-    }
+}
+
+// Which statements a query string asks for.
+fn filter_of(fields: &[(String, String)]) -> Result<LogFilter<'_>, Fault<'static>>
+    ensures { IfOk result (HasFilter (map field_texts fields.now)) }
+{
+    Ok(LogFilter {
+        after: field_value(fields, Member::After),
+        before: field_value(fields, Member::Before),
+        relvar: field_value(fields, Member::Relvar),
+        key: field_value(fields, Member::Key),
+        author: field_value(fields, Member::Author),
+        contains: field_value(fields, Member::Contains),
+        last: number_of(fields, Member::Last)?,
+    })
 }
 
 // The text of a member, where there is one.
@@ -112,34 +114,52 @@ fn required_count(body: &Value<'_>, member: Member) -> Result<u64, Fault<'static
     }
 }
 
-/// The call that a GET makes by its path and its query string.
+/// The call that a GET makes by its path and the fields of its query string.
 pub(crate) fn call_of_query<'a>(
     target: Target<'a>,
-    query: &'a str,
+    fields: &'a [(String, String)],
 ) -> Result<ApiCall<'a>, Fault<'a>>
-    ensures { IfOk result (GivesInQuery target.entry.resource target.entry.name.now query.now) }
+    ensures known { IsOk result → AreKnown (row_of target.entry.resource).members
+        (map field_texts fields.now) }
+    ensures gives { IfOk result (GivesInQuery target.entry.resource target.entry.name.now
+        (map field_texts fields.now)) }
 {
-    check_query(query, target.resource.description().members)?;
+    check_fields(fields, target.resource.description().members)?;
     match target.resource {
-        Resource::Site if query.is_empty() => Ok(ApiCall::Site),
+        Resource::Site => Ok(ApiCall::Site),
         Resource::Relvars => Ok(ApiCall::Relvars {
-            counts: query_flag(query, Member::Counts)?,
+            counts: flag_of(fields, Member::Counts)?,
         }),
-        Resource::Table if query.is_empty() => Ok(ApiCall::Table {
+        Resource::Table => Ok(ApiCall::Table {
             relvar: target.name,
         }),
-        Resource::Refused if query.is_empty() => Ok(ApiCall::Refused),
-        Resource::Log => Ok(ApiCall::Log {
-            after: query_text(query, Member::After)?,
-        }),
-        Resource::Script if query.is_empty() => Ok(ApiCall::Script),
-        Resource::Digest if query.is_empty() => Ok(ApiCall::Digest),
-        _ => Err(Fault::Query(query)),
+        Resource::Refused => Ok(ApiCall::Refused),
+        Resource::Log => Ok(ApiCall::Log(filter_of(fields)?)),
+        Resource::Script => Ok(ApiCall::Script),
+        Resource::Schema => Ok(ApiCall::Schema),
+        Resource::Digest => Ok(ApiCall::Digest),
+        _ => Err(Fault::Path),
     }
+}
+
+// Which tuples a body asks for.
+fn selection_of<'a>(alloc: Global, body: &Value<'a>) -> Result<Selection<'a>, Fault<'static>>
+    ensures { IfOk result (HasSelection (value_view body.now)) }
+{
+    let contains = optional_text(body, Member::Contains)?;
+    let first = optional_count(body, Member::First)?.unwrap_or(0);
+    let count = optional_count(body, Member::Count)?;
+    Ok(Selection {
+        order: order_of(alloc, body)?,
+        contains,
+        first,
+        count,
+    })
 }
 
 /// The call that a POST makes by its body.
 pub(crate) fn call_of_body<'a>(
+    alloc: Global,
     resource: Resource,
     body: &Value<'a>,
 ) -> Result<ApiCall<'a>, Fault<'a>>
@@ -150,8 +170,7 @@ pub(crate) fn call_of_body<'a>(
         Resource::Query => Ok(ApiCall::Query {
             text: required_text(body, Member::Text)?,
             at: optional_text(body, Member::At)?,
-            first: optional_count(body, Member::First)?.unwrap_or(0),
-            count: optional_count(body, Member::Count)?,
+            selection: selection_of(alloc, body)?,
         }),
         Resource::Statement => Ok(ApiCall::Statement {
             text: required_text(body, Member::Text)?,

@@ -1,7 +1,48 @@
 //! The calls that a request can make.
 
+/// An attribute by which tuples are ordered.
+#[derive(Drop)]
+pub struct OrderBy {
+    pub attribute: String,
+    /// The greatest value comes first.
+    pub is_descending: bool,
+}
+
+/// Which tuples of a relation are answered, and in which order.
+#[derive(Drop)]
+pub struct Selection<'a> {
+    /// Tuples that have one value of the first attribute are ordered by the next one. Tuples that have one value of all
+    /// of them are in the order of the language.
+    pub order: Vec<OrderBy>,
+    /// Only the tuples of which a text contains this one, whatever the case of the letters.
+    pub contains: Option<&'a str>,
+    /// How many of these tuples are left out first.
+    pub first: u64,
+    /// How many are answered after that; all if there is no number.
+    pub count: Option<u64>,
+}
+
+/// Which statements are answered: those that fit each member.
+#[derive(Clone, Copy)]
+pub struct LogFilter<'a> {
+    /// Those after this stamp.
+    pub after: Option<&'a str>,
+    /// Those before this stamp.
+    pub before: Option<&'a str>,
+    /// Those that changed this relvar.
+    pub relvar: Option<&'a str>,
+    /// Those that changed a tuple that has these values, an object of JSON, in that relvar.
+    pub key: Option<&'a str>,
+    /// Those that begin with this comment.
+    pub author: Option<&'a str>,
+    /// Those whose text contains this one, whatever the case of the letters.
+    pub contains: Option<&'a str>,
+    /// Only the last ones of them.
+    pub last: Option<u64>,
+}
+
 /// A call, with its arguments.
-#[derive(Clone, Copy, Debug, PartialEq, Eq)]
+#[derive(Drop)]
 pub enum ApiCall<'a> {
     /// What the site is, what it holds, and whom it met.
     Site,
@@ -15,21 +56,19 @@ pub enum ApiCall<'a> {
     },
     /// The statements that are refused, each with its reason.
     Refused,
-    /// The statements after a stamp, or all, each with what became of it.
-    Log {
-        after: Option<&'a str>,
-    },
+    /// Statements, each with what became of it.
+    Log(LogFilter<'a>),
     /// The script.
     Script,
+    /// What the script defines: types, relvars, constraints, and words for names.
+    Schema,
     /// Of each site that has issued, up to which number its statements are held, and their digest.
     Digest,
-    /// The value of an expression: of a relation `count` tuples from `first` on, or all from there. With a stamp, as it
-    /// was just after that statement.
+    /// The value of an expression: of a relation these tuples. With a stamp, as it was just after that statement.
     Query {
         text: &'a str,
         at: Option<&'a str>,
-        first: u64,
-        count: Option<u64>,
+        selection: Selection<'a>,
     },
     /// A statement is added. A key that an earlier statement had gives that statement's answer again.
     Statement {

@@ -7,6 +7,7 @@ ghost use Rattle.json.specs.Written.{Writes};
 ghost use Rattle.td_http_api.specs.Answers.{Answer, IsBegun, given_answer};
 ghost use Rattle.td_http_api.specs.Integers.{IsExact};
 ghost use Rattle.td_http_api.specs.declared.calls.ApiCall.{ApiCall};
+ghost use Rattle.td_http_api.specs.declared.desk.Revision.{Revision as RevisionData};
 
 use crate::calls::ApiCall;
 use http::StatusCode;
@@ -22,8 +23,22 @@ pub enum DeskAnswer {
     Table(String),
 }
 
+/// What a site shows is the same as long as this is.
+#[derive(Clone, Copy)]
+pub struct Revision {
+    /// A number that the program chose at its start.
+    pub start: u64,
+    /// How many statements the site holds.
+    pub statements: u64,
+    /// How often anything else changed that the site shows.
+    pub marks: u64,
+}
+
 /// A site that answers calls.
 pub trait Desk {
+    // What the site shows now.
+    ghost revision: { Self → RevisionData };
+
     // From the first state a call is answered so, and leaves the second. There is no answer where memory ran out.
     ghost answers: { Self → ApiCall → Option Answer → Self → Type 0 };
 
@@ -35,6 +50,10 @@ pub trait Desk {
     fn make(&mut self, call: &ApiCall<'_>, out: &mut Writer) -> Result<DeskAnswer, AllocError>
         requires { IsBegun out.old }
         ensures { answers self.old call.now (given_answer result out.new) self.new };
+
+    /// What the site shows now. Times that pass are no change.
+    fn revision(&self) -> Revision
+        ensures { result ≡ revision self.now };
 
     /// Why the site takes no statements; none where it takes them. Everyone may read it, so it has no data of the site.
     fn failure(&self) -> Option<&str>

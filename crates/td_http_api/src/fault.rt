@@ -4,6 +4,7 @@ ghost use Rattle.std.specs.Prelude.{◌≤◌};
 
 use crate::resources::Methods;
 use http::StatusCode;
+use std::alloc::AllocError;
 use thiserror::Error;
 
 /// A fault of a request.
@@ -23,6 +24,12 @@ pub(crate) enum Fault<'a> {
     Method(Methods),
     #[error("the path takes no ?{0}")]
     Query(&'a str),
+    #[error("?{0} comes twice")]
+    Repeated(&'a str),
+    #[error("{0} in the path has to be a whole number from 0 on")]
+    NoNumber(&'static str),
+    #[error("?{0} takes no value")]
+    NoValue(&'static str),
     #[error("the body is no JSON in UTF-8")]
     Json,
     #[error("a member of the body comes twice")]
@@ -39,6 +46,12 @@ pub(crate) enum Fault<'a> {
     NoCount(&'static str),
     #[error("{0} has to be true or false")]
     NoFlag(&'static str),
+    #[error("{0} has to be a list of pairs, each of an attribute and up or down")]
+    NoOrder(&'static str),
+    #[error("{0} has at most 16 attributes")]
+    ManyOrders(&'static str),
+    #[error("memory ran out")]
+    Memory,
 }
 
 impl Fault<'_> {
@@ -53,7 +66,14 @@ impl Fault<'_> {
             Fault::ContentType => StatusCode::UNSUPPORTED_MEDIA_TYPE,
             Fault::Path => StatusCode::NOT_FOUND,
             Fault::Method(_) => StatusCode::METHOD_NOT_ALLOWED,
+            Fault::Memory => StatusCode::SERVICE_UNAVAILABLE,
             _ => StatusCode::BAD_REQUEST,
         }
+    }
+}
+
+impl From<AllocError> for Fault<'_> {
+    fn from(_: AllocError) -> Self {
+        Fault::Memory
     }
 }

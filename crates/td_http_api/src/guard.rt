@@ -19,8 +19,8 @@ pub struct Guard {
     pub(crate) bearer: String,
 }
 
-// The one value of a field; none where there is no value or several.
-fn only(values: &HeaderMap<HeaderValue>, name: HeaderName) -> Option<&[u8]>
+/// The one value of a field; none where there is no value or several.
+pub(crate) fn only(values: &HeaderMap<HeaderValue>, name: HeaderName) -> Option<&[u8]>
     ensures { option_copied result ≡ only_value (get_all values.now name) }
 {
     let mut all = values.get_all(name).iter();

@@ -6,5 +6,5 @@ use crate::desk::Desk;
 
 /// Requests without the token leave a desk as it was, however many a connection brings.
 pub fn calls_need_token<D: Desk>()
-    ensures { CallsNeedToken D.answers D.failing }
+    ensures { CallsNeedToken D.answers D.failing D.revision }
 {}

@@ -4,7 +4,7 @@
 //! Begin with `Api`, an `http_server::Service`, with `Guard`, which requests are let in, with `ApiCall`, the calls, and
 //! with `Desk`, the site that answers them.
 //!
-//! Its definitions are in `specs/`: begin with Services, what comes of a request, and go on with Guards, Requests,
+//! Its definitions are in `specs/`: begin with Services, what comes of a request, and go on with Guards, Tags, Requests,
 //! Resources, Members, Answers, Integers and Laws.
 //!
 //! td_http_api moves no bytes and knows no site but a `Desk`.
@@ -32,11 +32,12 @@
 //!   `words` (what it brought, or why it failed) and `seconds` (how long ago).
 //! - `Relvars`: `relvars`, each with `name`, `kind` (`base` or `virtual`), `heading` (of each attribute `name` and
 //!   `type`) and, where they are counted, `tuples`.
-//! - `Refused`: `refused` in the order of stamps, each with `stamp`, `reason`, `text` and `reversed`, true where it was
-//!   done here and nobody has acknowledged that it is refused.
-//! - `Log`: `log` in the order of stamps, each as in `Refused`, or with `stamp`, `done`, `changed` (of each relvar the
-//!   first tuples that it took out and put in, in words) and `text`.
-//! - `Script`: `script`.
+//! - `Refused`: `refused` in the order of stamps, each with `stamp`, `number`, `author` (null if its text names none),
+//!   `reason`, `text` and `reversed`, true where it was done here and nobody has acknowledged that it is refused.
+//! - `Log`: `log` in the order of stamps, each as in `Refused`, or with `done` and `changed` in place of `reason` and
+//!   `reversed`: of each relvar that it changed `relvar`, `out` and `in` (the first tuples that left it and that came
+//!   into it) and `more` (how many others).
+//! - `Script`: `script`. `Schema`: `types`, `relvars`, `constraints` and `labels`.
 //! - `Digest`: `digest`, of each site that has issued `site`, `number` and `sum`: the number of its last statement that
 //!   is held, and the SHA-256 of all up to that, as `.digest` of the shell has it.
 //! - `Query`: of a relation `heading`, `rows` (lists of values in its order) and `total`, how many tuples there are in
@@ -57,16 +58,19 @@ mod arguments;
 mod calls;
 mod desk;
 mod fault;
+mod fields;
 mod guard;
 pub mod laws;
 mod members;
+mod orders;
 mod page;
 mod resources;
 mod responses;
+mod tags;
 
 pub use api::Api;
-pub use calls::ApiCall;
-pub use desk::{Desk, DeskAnswer, write_integer};
+pub use calls::{ApiCall, LogFilter, OrderBy, Selection};
+pub use desk::{Desk, DeskAnswer, Revision, write_integer};
 pub use guard::Guard;
 pub use http::StatusCode;
 pub use json::Writer;

@@ -1,7 +1,7 @@
 //! The members of bodies and of query strings.
 
 ghost use Rattle.std.specs.Prelude.{◌≡◌};
-ghost use Rattle.td_http_api.specs.Members.{member_name};
+ghost use Rattle.td_http_api.specs.Members.{is_member_name, member_name};
 
 use crate::fault::Fault;
 use json::Value;
@@ -11,8 +11,14 @@ use json::Value;
 pub(crate) enum Member {
     Counts,
     After,
+    Before,
+    Relvar,
+    Author,
+    Last,
     Text,
     At,
+    Order,
+    Contains,
     First,
     Count,
     Key,
@@ -30,6 +36,8 @@ pub(crate) enum Kind {
     Count,
     /// A truth value of JSON; in a query string `NAME`, which is true where it is there.
     Flag,
+    /// A list of pairs of JSON: an attribute, and `up` or `down`.
+    Order,
 }
 
 /// The row of a member in the table of members.
@@ -70,8 +78,14 @@ impl Member {
         match self {
             Member::Counts => optional("counts", Kind::Flag),
             Member::After => optional("after", Kind::Text),
+            Member::Before => optional("before", Kind::Text),
+            Member::Relvar => optional("relvar", Kind::Text),
+            Member::Author => optional("author", Kind::Text),
+            Member::Last => optional("last", Kind::Count),
             Member::Text => required("text", Kind::Text),
             Member::At => optional("at", Kind::Text),
+            Member::Order => optional("order", Kind::Order),
+            Member::Contains => optional("contains", Kind::Text),
             Member::First => optional("first", Kind::Count),
             Member::Count => optional("count", Kind::Count),
             Member::Key => optional("key", Kind::Text),
@@ -105,17 +119,15 @@ impl Member {
             Kind::Text if value.as_str().is_none() => Err(Fault::NoText(name)),
             Kind::Count if value.as_u64().is_none() => Err(Fault::NoCount(name)),
             Kind::Flag if value.as_bool().is_none() => Err(Fault::NoFlag(name)),
+            Kind::Order if value.as_str().is_some() => Err(Fault::NoOrder(name)),
             _ => Ok(()),
         }
     }
 }
 
 /// Whether one of the members has this name.
-pub(crate) fn is_known(members: &[Member], name: &str) -> bool {
-    for member in members {
-        if member.name() == name {
-            return true;
-        }
-    }
-    false
+pub(crate) fn is_known(members: &[Member], name: &str) -> bool
+    ensures { result ≡ is_member_name members.now name.now }
+{
+    members.iter().any(|member| member.name() == name)
 }

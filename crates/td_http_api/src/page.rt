@@ -2,7 +2,7 @@
 
 /// One script and one style, told by their digests, nothing from elsewhere, and calls to this site alone.
 pub(crate) const POLICY: &str = "default-src 'none'; \
-    script-src 'sha256-izWHa75FsEhxgaUfsd/mAO0tb3T0UQlQ7pePZ1C85PU='; \
+    script-src 'sha256-bssMvK+S08qymbOGZOlvioMmuJSbKrA+GXSbdqO/Akk='; \
     style-src 'sha256-HTyxlaeNlyoxQ/dcNaaescyj1dNobVmquuAy4PmmmvQ='; \
     img-src data:; connect-src 'self'; base-uri 'none'; form-action 'none'; frame-ancestors 'none'; \
     require-trusted-types-for 'script'; trusted-types 'none'";
@@ -298,19 +298,23 @@ let logged = null;
 async function refreshLog(site) {
   const held = JSON.stringify(site.vector);
   if (!byId('log').open || held === logged) return;
-  const reply = await call('/api/log');
+  const reply = await call('/api/log?last=' + PAGE);
   if (reply.fault) throw new Error(reply.fault);
-  showLog(reply.log);
+  showLog(reply.log, site.held);
   logged = held;
 }
-function showLog(log) {
-  const table = byId('statements'), shown = log.slice(-PAGE).reverse();
+const tuplesOf = (sign, tuples) => tuples.map(it => ' ' + sign + ' (' + it.join(', ') + ')').join('');
+const moreOf = count => count ? ' and ' + count + ' more' : '';
+const changeOf = it => it.relvar + tuplesOf('-', it.out) + tuplesOf('+', it.in) + moreOf(it.more);
+const changesOf = changes => changes.length ? changes.map(changeOf).join('; ') : 'nothing';
+function showLog(log, held) {
+  const table = byId('statements'), shown = log.reverse();
   table.textContent = '';
   if (shown.length) addHead(table, ['stamp', 'changed', 'statement']);
   for (const it of shown) {
-    addRow(table, [it.stamp, it.done ? it.changed : element('td', 'refused: ' + it.reason, 'fault'), it.text]);
+    addRow(table, [it.stamp, it.done ? changesOf(it.changed) : element('td', 'refused: ' + it.reason, 'fault'), it.text]);
   }
-  byId('logged').textContent = shown.length + ' of ' + log.length + (log.length === 1 ? ' statement' : ' statements');
+  byId('logged').textContent = shown.length + ' of ' + held + (held === 1 ? ' statement' : ' statements');
 }
 let asking = false;
 async function refresh() {

@@ -20,6 +20,7 @@ pub(crate) enum Resource {
     Refused,
     Log,
     Script,
+    Schema,
     Digest,
     Query,
     Statement,
@@ -30,7 +31,7 @@ pub(crate) enum Resource {
 }
 
 /// All of them, in the order in which a path is compared with theirs.
-const RESOURCES: [Resource; 15] = [
+const RESOURCES: [Resource; 16] = [
     Resource::Page,
     Resource::Health,
     Resource::Site,
@@ -39,6 +40,7 @@ const RESOURCES: [Resource; 15] = [
     Resource::Refused,
     Resource::Log,
     Resource::Script,
+    Resource::Schema,
     Resource::Digest,
     Resource::Query,
     Resource::Statement,
@@ -179,13 +181,33 @@ impl Resource {
                 members: &[],
             },
             Resource::Refused => call_by(Methods::Get, "/api/refused", &[]),
-            Resource::Log => call_by(Methods::Get, "/api/log", &[Member::After]),
+            Resource::Log => call_by(
+                Methods::Get,
+                "/api/log",
+                &[
+                    Member::After,
+                    Member::Before,
+                    Member::Relvar,
+                    Member::Key,
+                    Member::Author,
+                    Member::Contains,
+                    Member::Last,
+                ],
+            ),
             Resource::Script => call_by(Methods::Get, "/api/script", &[]),
+            Resource::Schema => call_by(Methods::Get, "/api/schema", &[]),
             Resource::Digest => call_by(Methods::Get, "/api/digest", &[]),
             Resource::Query => call_by(
                 Methods::Post,
                 "/api/query",
-                &[Member::Text, Member::At, Member::First, Member::Count],
+                &[
+                    Member::Text,
+                    Member::At,
+                    Member::Order,
+                    Member::Contains,
+                    Member::First,
+                    Member::Count,
+                ],
             ),
             Resource::Statement => call_by(
                 Methods::Post,

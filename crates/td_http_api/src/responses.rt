@@ -1,9 +1,9 @@
 //! What is sent.
 
 ghost use Rattle.std.specs.Prelude.{◌≡◌, ◌++◌, ◌≤◌, OnOk, option_copied, string_bytes};
-ghost use Rattle.http_server.specs.Response.{IsBlank};
 ghost use Rattle.json.specs.Print.{print};
 ghost use Rattle.td_http_api.specs.Answers.{IsAnswer, fault_text, health_answer};
+ghost use Rattle.td_http_api.specs.Tags.{IsUnanswered};
 
 use crate::fault::Fault;
 use crate::page::{PAGE, POLICY};
@@ -17,16 +17,20 @@ use http_server::Response;
 use json::Writer;
 use std::alloc::{AllocError, Global};
 
-// Adds a header to the response.
-fn put(response: &mut Response, name: HeaderName, value: HeaderValue) -> Result<(), AllocError>
+/// Adds a header to the response.
+pub(crate) fn put(
+    response: &mut Response,
+    name: HeaderName,
+    value: HeaderValue,
+) -> Result<(), AllocError>
     ensures status { response.new.status ≡ response.old.status }
     ensures body { response.new.body ≡ response.old.body }
 {
     response.add_header(name, value)
 }
 
-// Adds the headers that every response has: no guessing of the content's type, and no caching.
-fn put_common(response: &mut Response) -> Result<(), AllocError>
+/// Adds the headers that every response has: no guessing of the content's type, and no caching.
+pub(crate) fn put_common(response: &mut Response) -> Result<(), AllocError>
     ensures status { response.new.status ≡ response.old.status }
     ensures body { response.new.body ≡ response.old.body }
 {
@@ -69,7 +73,7 @@ pub(crate) fn put_json(
     status: StatusCode,
     out: Writer,
 ) -> Result<(), AllocError>
-    requires { IsBlank response.old }
+    requires { IsUnanswered response.old }
     ensures { OnOk result (IsAnswer (record { status = status; text = out.before ++ print out.tokens })
         response.new) }
 {
@@ -86,7 +90,7 @@ pub(crate) fn put_json(
 
 /// Puts a table in CSV into a response, whose status remains.
 pub(crate) fn put_table(response: &mut Response, table: String) -> Result<(), AllocError>
-    requires { IsBlank response.old }
+    requires { IsUnanswered response.old }
     ensures { OnOk result (IsAnswer (record { status = 200; text = string_bytes table })
         response.new) }
 {
@@ -106,7 +110,7 @@ pub(crate) fn put_words(
     status: StatusCode,
     words: &str,
 ) -> Result<(), AllocError>
-    requires { IsBlank response.old }
+    requires { IsUnanswered response.old }
     ensures { OnOk result (IsAnswer (record { status = status; text = fault_text words.now })
         response.new) }
 {
@@ -124,7 +128,7 @@ pub(crate) fn put_health(
     response: &mut Response,
     failure: Option<&str>,
 ) -> Result<(), AllocError>
-    requires { IsBlank response.old }
+    requires { IsUnanswered response.old }
     ensures { OnOk result (IsAnswer (health_answer (option_copied failure.entry)) response.new) }
 {
     let mut out = Writer::new(Vec::new(alloc));
@@ -149,7 +153,7 @@ pub(crate) fn put_fault(
     response: &mut Response,
     fault: &Fault<'_>,
 ) -> Result<(), AllocError>
-    requires { IsBlank response.old }
+    requires { IsUnanswered response.old }
     ensures { OnOk result (400 ≤ response.new.status) }
 {
     let words = format!(in alloc; "{fault}")?;

@@ -6,6 +6,7 @@ use crate::host::{Host, JournaledSite, report_memory};
 use crate::serving::serve;
 use crate::words::ServerOptions;
 use std::alloc::AllocError;
+use std::random::RandomSource;
 use td_alarms::Alarms;
 use td_changes::Changes;
 use td_io::Device;
@@ -23,6 +24,14 @@ use td_site_opening::{
 // Reports why there is no site, and returns the exit status.
 fn report_fault(rt: &HostRuntime, fault: StartFault<'_>) -> ExitStatus {
     report(rt.alloc(), rt, fault, &mut Device::new(rt.stderr()))
+}
+
+// A number that no other start chose, as far as random numbers go.
+fn new_number<H: RandomSource>(host: &H) -> u64 {
+    let mut bytes = [0u8; 8];
+    // Without randomness clients of two starts may take an old answer for the present one.
+    let _ = host.fill_bytes(&mut bytes);
+    u64::from_le_bytes(bytes)
 }
 
 impl<'a> Host<'a> {
@@ -49,6 +58,7 @@ impl<'a> Host<'a> {
             reversals,
             alarms,
             is_lacking,
+            start: new_number(self.rt),
             mark: self.find_mark()?,
         };
         SiteDesk::new(alloc, parts)

@@ -1,5 +1,5 @@
 -- What the calls of a desk do to its site, and with which status that is answered.
-use Rattle.std.specs.Prelude.{◌≡◌, ◌⊎◌, ◌≤◌, ℕ, Bool, true, false, List, Option, None, Some, IfSome, Result, Ok, Err, option_copied, option_map}
+use Rattle.std.specs.Prelude.{◌≡◌, ◌⊎◌, ◌≤◌, ℕ, Bool, true, false, List, length, Option, None, Some, IfSome, Result, Ok, Err, if◌then◌else◌, option_copied, option_map}
 use Rattle.td_http_api.specs.Answers.{Answer}
 use Rattle.td_http_api.specs.declared.calls.ApiCall.{ApiCall}
 use Rattle.td_http_api.specs.declared.calls.ApiCall.TheVariants.{Statement}
@@ -10,6 +10,10 @@ use Rattle.td_replica.specs.declared.refusal.IssueError.{IssueError}
 use Rattle.td_site_messages.specs.declared.wording.TheConstants.{BROKEN, LACKING}
 use Rattle.td_stamps.specs.declared.entry.Entry.{Entry}
 use Rattle.td_statement_keys.specs.Keys.{issued_text, keyed_entry}
+
+-- how many statements an open site holds
+abbrev pub statement_count : Seen → ℕ
+statement_count s = if s.live then length s.entries else 0
 
 -- an issue is answered with 200, and one that is refused with 400 or more
 abbrev pub IsStatusOf : Result Issued IssueError → ℕ → Type 0

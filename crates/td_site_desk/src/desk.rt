@@ -1,7 +1,7 @@
 //! The site that answers requests.
 
 ghost use Rattle.std.specs.Prelude.{◌≡◌, option_copied, option_map, string_bytes};
-ghost use Rattle.td_site_desk.specs.Sites.{Changes, failing_of};
+ghost use Rattle.td_site_desk.specs.Sites.{Changes, failing_of, statement_count};
 
 use crate::console::PartialLine;
 use crate::inquiries::SiteView;
@@ -9,18 +9,18 @@ use crate::meetings::Meetings;
 use crate::reversals::Reversals;
 use crate::scopes::Scopes;
 use crate::suspension::Suspension;
-use crate::values::Range;
 use crate::words::{fault, write_raised, write_text, write_truth};
 use std::alloc::{AllocError, Global};
 use std::net::SocketAddr;
 use std::rt::Runtime;
 use td_alarms::Alarms;
 use td_changes::Changes;
-use td_http_api::{ApiCall, Desk, DeskAnswer, StatusCode, Writer};
+use td_http_api::{ApiCall, Desk, DeskAnswer, Revision, Selection, StatusCode, Writer};
 use td_io::Device;
 use td_journal_files::Notes;
 use td_listings::{ExportError, export};
 use td_replica::Catalogued;
+use td_schema_answers::write_schema;
 use td_semantics::Meter;
 use td_site_messages::{BROKEN, LACKING, NO_MEMORY};
 
@@ -43,6 +43,8 @@ pub struct DeskParts<'a, R: Drop, H> {
     pub alarms: Alarms,
     /// Its journal lacks statements that it had once, so it issues none until it has met another site.
     pub is_lacking: bool,
+    /// A number that the program chose at this start.
+    pub start: u64,
     /// The name of a file that is there until a rebuilt site has met another one, if it is there.
     pub mark: Option<String>,
 }
@@ -68,6 +70,9 @@ pub struct SiteDesk<'a, R: Drop, H> {
     pub(crate) suspension: Option<Suspension>,
     pub(crate) is_stopping: bool,
     pub(crate) now: u64,
+    pub(crate) start: u64,
+    /// How often anything changed that is shown, but for the statements.
+    pub(crate) marks: u64,
 }
 
 // The answer of the members that were written, with this status.
@@ -93,6 +98,7 @@ impl<'a, R: Changes + Catalogued + Drop, H: Runtime + AllocGlobal> SiteDesk<'a, 
             mut reversals,
             alarms,
             is_lacking,
+            start,
             mark,
         } = parts;
         let _ = reversals.update(&site)?;
@@ -115,6 +121,8 @@ impl<'a, R: Changes + Catalogued + Drop, H: Runtime + AllocGlobal> SiteDesk<'a, 
             suspension: None,
             is_stopping: false,
             now: 0,
+            start,
+            marks: 0,
         })
     }
 
@@ -145,6 +153,13 @@ impl<'a, R: Changes + Catalogued + Drop, H: Runtime + AllocGlobal> SiteDesk<'a, 
         ensures { R.seen self.new.site ≡ R.seen self.old.site }
     {
         self.now = now;
+    }
+
+    /// Notes that something changed that is shown.
+    pub(crate) fn mark_change(&mut self)
+        ensures { R.seen self.new.site ≡ R.seen self.old.site }
+    {
+        self.marks = self.marks.wrapping_add(1);
     }
 
     // Tells whoever watches the program. Nothing depends on whether that is seen.
@@ -195,19 +210,25 @@ impl<'a, R: Changes + Catalogued + Drop, H: Runtime + AllocGlobal> SiteDesk<'a, 
         Ok(StatusCode::OK)
     }
 
+    // Appends what the script defines.
+    fn tell_schema(&self, out: &mut Writer) -> Result<StatusCode, AllocError> {
+        write_schema(self.alloc, self.site.catalogue(), self.site.script(), out)?;
+        Ok(StatusCode::OK)
+    }
+
     // Appends the value of a query: now, or as it was just after the statement of a stamp.
     fn query(
         &self,
         text: &str,
         at: Option<&str>,
-        range: Range,
+        selection: &Selection<'_>,
         out: &mut Writer,
     ) -> Result<StatusCode, AllocError> {
         match at {
-            None => self.view().ask(text, range, out),
+            None => self.view().ask(text, selection, out),
             Some(at) => {
                 let mut meter = Meter::new(self.host);
-                self.view().ask_at(text, at, range, &mut meter, out)
+                self.view().ask_at(text, at, selection, &mut meter, out)
             }
         }
     }
@@ -271,6 +292,7 @@ impl<'a, R: Changes + Catalogued + Drop, H: Runtime + AllocGlobal> SiteDesk<'a, 
             return fault(out, StatusCode::FORBIDDEN, words);
         }
         self.wish = Some(address);
+        self.mark_change();
         write_truth(out, "calling", true)?;
         Ok(StatusCode::ACCEPTED)
     }
@@ -280,12 +302,20 @@ impl<'a, R: Changes + Catalogued + Drop, H: Runtime + AllocGlobal> SiteDesk<'a, 
         ensures { R.seen self.new.site ≡ R.seen self.old.site }
     {
         self.is_stopping = true;
+        self.mark_change();
         write_truth(out, "stopping", true)?;
         Ok(StatusCode::ACCEPTED)
     }
 }
 
 impl<R: Changes + Catalogued + Drop, H: Runtime + AllocGlobal> Desk for SiteDesk<'_, R, H> {
+    // The numbers are those of the program, of the site and of the desk.
+    ghost revision = { λ desk. record {
+      start = desk.start;
+      statements = statement_count (R.seen desk.site);
+      marks = desk.marks;
+    } };
+
     // No call changes the site but a statement, which is answered by a fault where the site takes none.
     ghost answers = { λ old call answer new.
         Changes (failing_of (option_map (λ it. string_bytes it.why) old.suspension)
@@ -296,28 +326,40 @@ impl<R: Changes + Catalogued + Drop, H: Runtime + AllocGlobal> Desk for SiteDesk
         (R.seen desk.site).live desk.is_lacking };
 
     fn make(&mut self, call: &ApiCall<'_>, out: &mut Writer) -> Result<DeskAnswer, AllocError> {
-        match *call {
+        match call {
             ApiCall::Site => members(self.tell_site(out)),
-            ApiCall::Relvars { counts } => members(self.tell_relvars(counts, out)),
+            ApiCall::Relvars { counts } => members(self.tell_relvars(*counts, out)),
             ApiCall::Table { relvar } => self.export_table(relvar, out),
             ApiCall::Refused => members(self.view().tell_refused(out)),
-            ApiCall::Log { after } => members(self.view().tell_log(after, out)),
+            ApiCall::Log(filter) => members(self.view().tell_log(filter, out)),
             ApiCall::Script => members(self.tell_script(out)),
+            ApiCall::Schema => members(self.tell_schema(out)),
             ApiCall::Digest => members(self.view().tell_digest(out)),
             ApiCall::Query {
                 text,
                 at,
-                first,
-                count,
-            } => members(self.query(text, at, Range { first, count }, out)),
-            ApiCall::Statement { text, key } => match self.answer_statement(text, key, out) {
+                selection,
+            } => members(self.query(*text, *at, selection, out)),
+            ApiCall::Statement { text, key } => match self.answer_statement(*text, *key, out) {
                 Ok(status) => Ok(DeskAnswer::Members(status)),
                 Err(error) => Err(error),
             },
             ApiCall::Acknowledge { stamp } => members(self.acknowledge_stamp(stamp, out)),
-            ApiCall::AcknowledgeAlarms { site } => members(self.acknowledge_alarms(site, out)),
+            ApiCall::AcknowledgeAlarms { site } => members(self.acknowledge_alarms(*site, out)),
             ApiCall::Meet { address } => members(self.wish_for(address, out)),
             ApiCall::Stop => members(self.stop_soon(out)),
+        }
+    }
+
+    fn revision(&self) -> Revision {
+        let statements = match self.site.held() {
+            Ok(held) => held.len() as u64,
+            Err(_) => 0,
+        };
+        Revision {
+            start: self.start,
+            statements,
+            marks: self.marks,
         }
     }
 

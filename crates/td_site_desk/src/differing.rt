@@ -58,7 +58,10 @@ impl<R: Changes + Catalogued + Drop, H: Runtime + AllocGlobal> SiteDesk<'_, R, H
     {
         match self.alarms.raise(sites, address) {
             Ok(0) => {}
-            Ok(count) => self.keep_alarms(count, address),
+            Ok(count) => {
+                self.keep_alarms(count, address);
+                self.mark_change();
+            }
             Err(_) => self.tell_line("fault memory: an alarm is not kept\n"),
         }
     }
@@ -80,6 +83,7 @@ impl<R: Changes + Catalogued + Drop, H: Runtime + AllocGlobal> SiteDesk<'_, R, H
             return fault(out, StatusCode::UNPROCESSABLE_ENTITY, words);
         }
         self.save_alarms();
+        self.mark_change();
         write_count(out, "acknowledged", count as u64)?;
         Ok(StatusCode::OK)
     }

@@ -308,6 +308,7 @@ impl<R: Changes + Catalogued + Digested + Drop, H: Runtime + AllocGlobal> SiteDe
         if let Some(MeetingState::Greeted(greeted)) = self.scopes.take(report.meeting) {
             self.end_greeted(report, greeted);
         }
+        self.mark_change();
         outcome
     }
 

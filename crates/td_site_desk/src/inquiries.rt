@@ -2,24 +2,24 @@
 
 ghost use Rattle.std.specs.Prelude.{◌≤◌};
 
+use crate::authors::author_of;
+use crate::changes::write_changes;
 use crate::digests::write_digests;
 use crate::reversals::Reversals;
-use crate::values::{Range, write_heading, write_value};
+use crate::values::{Unshown, write_heading, write_value};
 use crate::words::{
-    fault, fault_words, is_same, read_stamp, reason_of, write_count, write_stamp, write_text,
-    write_truth,
+    fault, fault_words, read_stamp, reason_of, write_count, write_stamp, write_text, write_truth,
 };
 use std::alloc::{AllocError, Global};
 use td_changes::Changes;
 use td_headings::{Catalogue, Origin};
-use td_http_api::{StatusCode, Writer};
+use td_http_api::{Selection, StatusCode, Writer};
 use td_journal_files::Notes;
-use td_relations::Delta;
 use td_replica::{AskError, Catalogued, PastError, TellError};
 use td_semantics::{Answer, Meter, Outcome};
-use td_site_messages::{BROKEN, SiteFault, push_changes, raise_meaning};
+use td_site_messages::{BROKEN, SiteFault, raise_meaning};
 use td_stamps::{Entry, Held, Stamp};
-use td_values::Name;
+use td_values::{Name, Value};
 
 /// A site, with what the answers about it need.
 #[derive(Drop)]
@@ -60,18 +60,6 @@ pub(crate) fn status_of_tell(error: TellError) -> StatusCode
     }
 }
 
-// Appends what a statement changed as the member `changed`.
-fn write_changes(
-    alloc: Global,
-    catalogue: &Catalogue,
-    changes: &[(usize, Delta)],
-    out: &mut Writer,
-) -> Result<(), AllocError> {
-    let mut changed = String::new(alloc);
-    push_changes(&mut changed, catalogue, changes)?;
-    write_text(out, "changed", changed.as_str())
-}
-
 // Appends the version vector of the entries that a site holds, a member for each site.
 fn write_vector(alloc: Global, held: &Held, out: &mut Writer) -> Result<(), AllocError> {
     let entries = held.vector(alloc)?.entries(alloc)?;
@@ -91,6 +79,14 @@ fn write_site(alloc: Global, site: u16, number: u32, out: &mut Writer) -> Result
 fn write_null(out: &mut Writer, name: &str) -> Result<(), AllocError> {
     out.key(name)?;
     out.null()
+}
+
+// Appends the author of a statement as the member `author`, null if its text names none.
+fn write_author(out: &mut Writer, text: &str) -> Result<(), AllocError> {
+    match author_of(text) {
+        Some(author) => write_text(out, "author", author),
+        None => write_null(out, "author"),
+    }
 }
 
 // Whether a relvar is virtual or base.
@@ -207,8 +203,8 @@ impl<R: Changes + Catalogued> SiteView<'_, R> {
         }
     }
 
-    // Appends a statement with its stamp, and with what it changed or why it is refused.
-    fn tell_entry(
+    /// Appends a statement with its stamp, and with what it changed or why it is refused.
+    pub(crate) fn tell_entry(
         &self,
         entry: &Entry,
         outcome: &Outcome,
@@ -217,13 +213,15 @@ impl<R: Changes + Catalogued> SiteView<'_, R> {
         let stamp = entry.stamp();
         out.begin_object()?;
         write_stamp(self.alloc, out, &stamp)?;
+        write_count(out, "number", u64::from(entry.seq))?;
+        write_author(out, entry.text.as_str())?;
         self.tell_outcome(&stamp, outcome, out)?;
         write_text(out, "text", entry.text.as_str())?;
         out.end_object()
     }
 
-    // Appends why the site does not do what it is asked, and returns the status.
-    fn refuse(
+    /// Appends why the site does not do what it is asked, and returns the status.
+    pub(crate) fn refuse(
         &self,
         status: StatusCode,
         error: SiteFault<'_>,
@@ -233,8 +231,8 @@ impl<R: Changes + Catalogued> SiteView<'_, R> {
         fault(out, status, words.as_str())
     }
 
-    // What the site holds, with what became of each statement.
-    fn entries(&self) -> Result<(&[Entry], Vec<(Stamp, Outcome)>), TellError> {
+    /// What the site holds, with what became of each statement.
+    pub(crate) fn entries(&self) -> Result<(&[Entry], Vec<(Stamp, Outcome)>), TellError> {
         let Ok(held) = self.site.held() else {
             return Err(TellError::Broken);
         };
@@ -270,41 +268,24 @@ impl<R: Changes + Catalogued> SiteView<'_, R> {
         }
     }
 
-    // Appends those of these statements that come after a stamp, or all, each with what became of it.
-    fn tell_log_of(
+    // Appends a value, or why it is not shown in this order.
+    fn tell_value(
         &self,
-        entries: &[Entry],
-        outcomes: &[(Stamp, Outcome)],
-        after: Option<Stamp>,
+        value: &Value,
+        selection: &Selection<'_>,
         out: &mut Writer,
     ) -> Result<StatusCode, AllocError> {
-        out.key("log")?;
-        out.begin_array()?;
-        for (entry, (stamp, outcome)) in entries.iter().zip(outcomes) {
-            if is_after(stamp, after) {
-                self.tell_entry(entry, outcome, out)?;
+        match write_value(self.alloc, out, value, selection) {
+            Ok(()) => Ok(StatusCode::OK),
+            Err(Unshown::Memory) => Err(AllocError),
+            Err(Unshown::Order { index, error }) => {
+                let attribute = match selection.order.get(index) {
+                    Some(by) => by.attribute.as_str(),
+                    None => "",
+                };
+                let words = format!(in self.alloc; "order: {attribute}: {error}")?;
+                fault(out, StatusCode::UNPROCESSABLE_ENTITY, words.as_str())
             }
-        }
-        out.end_array()?;
-        Ok(StatusCode::OK)
-    }
-
-    /// Appends the statements after a stamp, or all, each with what became of it.
-    pub(crate) fn tell_log(
-        &self,
-        after: Option<&str>,
-        out: &mut Writer,
-    ) -> Result<StatusCode, AllocError> {
-        let after = match after {
-            None => None,
-            Some(text) => match read_stamp(text) {
-                Some(stamp) => Some(stamp),
-                None => return fault(out, StatusCode::BAD_REQUEST, STAMP_WORDS),
-            },
-        };
-        match self.entries() {
-            Ok((entries, outcomes)) => self.tell_log_of(entries, &outcomes, after, out),
-            Err(error) => self.refuse(status_of_tell(error), SiteFault::from(error), out),
         }
     }
 
@@ -312,25 +293,27 @@ impl<R: Changes + Catalogued> SiteView<'_, R> {
     fn tell_answer(
         &self,
         answer: &Answer,
-        range: Range,
+        selection: &Selection<'_>,
         out: &mut Writer,
     ) -> Result<StatusCode, AllocError> {
         match answer {
-            Answer::Value(value) => write_value(self.alloc, out, value, range)?,
-            Answer::Raised(raise) => write_text(out, "raised", raise_meaning(*raise))?,
+            Answer::Value(value) => self.tell_value(value, selection, out),
+            Answer::Raised(raise) => {
+                write_text(out, "raised", raise_meaning(*raise))?;
+                Ok(StatusCode::OK)
+            }
         }
-        Ok(StatusCode::OK)
     }
 
     /// Appends the value of a query.
     pub(crate) fn ask(
         &self,
         text: &str,
-        range: Range,
+        selection: &Selection<'_>,
         out: &mut Writer,
     ) -> Result<StatusCode, AllocError> {
         match self.site.ask(self.alloc, text) {
-            Ok(answer) => self.tell_answer(&answer, range, out),
+            Ok(answer) => self.tell_answer(&answer, selection, out),
             Err(error) => {
                 self.refuse(status_of(error), SiteFault::NotAsked { text, error }, out)
             }
@@ -342,7 +325,7 @@ impl<R: Changes + Catalogued> SiteView<'_, R> {
         &self,
         text: &str,
         at: &str,
-        range: Range,
+        selection: &Selection<'_>,
         meter: &mut Meter,
         out: &mut Writer,
     ) -> Result<StatusCode, AllocError> {
@@ -350,7 +333,7 @@ impl<R: Changes + Catalogued> SiteView<'_, R> {
             return fault(out, StatusCode::BAD_REQUEST, STAMP_WORDS);
         };
         match self.site.ask_at(self.alloc, text, stamp, meter) {
-            Ok(answer) => self.tell_answer(&answer, range, out),
+            Ok(answer) => self.tell_answer(&answer, selection, out),
             Err(error) => self.refuse(
                 status_of_past(error),
                 SiteFault::NotAskedAt { text, error },
@@ -362,15 +345,3 @@ impl<R: Changes + Catalogued> SiteView<'_, R> {
 
 /// What is said of a text that is no stamp.
 pub(crate) const STAMP_WORDS: &str = "a stamp is written CLOCK.SITE, as 12.1";
-
-// Whether a stamp comes after another one, if there is one.
-fn is_after(stamp: &Stamp, after: Option<Stamp>) -> bool {
-    match after {
-        None => true,
-        Some(after) => {
-            !is_same(stamp, &after)
-                && (stamp.clock > after.clock
-                    || stamp.clock == after.clock && stamp.site > after.site)
-        }
-    }
-}

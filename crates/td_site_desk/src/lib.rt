@@ -19,13 +19,17 @@
 //! meeting alone.
 #![tactic(auto)]
 
+mod authors;
+mod changes;
 mod console;
 mod desk;
 mod differing;
 mod digests;
 mod exchange;
+mod filters;
 mod inquiries;
 pub mod laws;
+mod log;
 mod meetings;
 mod received;
 mod reversals;

@@ -286,6 +286,7 @@ impl<R: Changes + Catalogued + Drop, H: Runtime + AllocGlobal> SiteDesk<'_, R, H
             let _removed = remove_file(self.host, mark.as_str());
         }
         self.mark = None;
+        self.mark_change();
     }
 
     /// Takes note of what a step took in this scope, and of what that changed since `before`. A site that lacks

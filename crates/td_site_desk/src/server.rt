@@ -46,14 +46,17 @@ impl<R: Changes + Catalogued + Drop, H: Runtime + AllocGlobal> Service for SiteS
     // A request is served once, by what the desk does to the site.
     ghost answers = { λ old request response new.
         Leads ⟦<SiteDesk<'static, R, H> as Desk>⟧.answers
-        ⟦<SiteDesk<'static, R, H> as Desk>⟧.failing old.api.guard old.api.desk request response
+        ⟦<SiteDesk<'static, R, H> as Desk>⟧.failing
+        ⟦<SiteDesk<'static, R, H> as Desk>⟧.revision old.api.guard old.api.desk request response
         new.api.guard new.api.desk };
 
     fn call(&mut self, request: &Request<Bytes>, response: &mut Response) -> Result<(), AllocError>
         requires { IsBlank response.old }
         ensures ok { OnOk result (Leads ⟦<SiteDesk<'static, R, H> as Desk>⟧.answers
-            ⟦<SiteDesk<'static, R, H> as Desk>⟧.failing self.old.api.guard self.old.api.desk
-            request.now response.new self.new.api.guard self.new.api.desk) }
+            ⟦<SiteDesk<'static, R, H> as Desk>⟧.failing
+            ⟦<SiteDesk<'static, R, H> as Desk>⟧.revision
+            self.old.api.guard self.old.api.desk request.now response.new self.new.api.guard
+            self.new.api.desk) }
         ensures err { OnErr result (self.new ≡ self.old) }
     {
         self.api.call(request, response)?;

@@ -297,6 +297,7 @@ impl<R: Changes + Catalogued + Drop, H: Runtime + AllocGlobal> SiteDesk<'_, R, H
             return fault(out, StatusCode::NOT_FOUND, words);
         }
         self.save_reversals();
+        self.mark_change();
         write_truth(out, "acknowledged", true)?;
         Ok(StatusCode::OK)
     }

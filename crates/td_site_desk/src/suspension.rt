@@ -43,6 +43,8 @@ impl<'a, R: Drop, H> SiteDesk<'a, R, H> {
             suspension: self.suspension,
             is_stopping: self.is_stopping,
             now: self.now,
+            start: self.start,
+            marks: self.marks.wrapping_add(1),
         };
         (self.site, desk)
     }
@@ -55,6 +57,7 @@ impl<'a, R: Drop, H> SiteDesk<'a, R, H> {
     /// Has the desk issue nothing and meet none for this reason, until a time at which another desk takes its place.
     pub fn suspend(&mut self, why: String, until: u64) {
         self.suspension = Some(Suspension { why, until });
+        self.marks = self.marks.wrapping_add(1);
     }
 
     /// Has a desk that is suspended stay so until a later time.
@@ -83,6 +86,7 @@ impl<R: Changes + Catalogued + Drop, H: Runtime + AllocGlobal> SiteDesk<'_, R, H
         self.suspension = None;
         self.is_lacking = is_lacking;
         let _ = self.reversals.update(&self.site);
+        self.mark_change();
     }
 
     /// Whether another desk is to take the place of this one: its journal has failed, or is to be tried again.

@@ -2,7 +2,8 @@
 
 use crate::words::{write_count, write_text};
 use std::alloc::{AllocError, Global};
-use td_http_api::{Writer, write_integer};
+use td_http_api::{OrderBy, Selection, Writer, write_integer};
+use td_selections::{SortError, SortKey, selected_tuples, sort_key};
 use td_values::{Heading, Kind, Rows, Tuple, Value, show, show_type};
 
 // Texts, numbers and truth values as they are, and all others as the language writes them.
@@ -36,8 +37,12 @@ pub(crate) fn write_heading(
     out.end_array()
 }
 
-// Appends a tuple as an array of its values, in the order of its attributes.
-fn write_tuple(alloc: Global, out: &mut Writer, tuple: &Tuple) -> Result<(), AllocError> {
+/// Appends a tuple as an array of its values, in the order of its attributes.
+pub(crate) fn write_tuple(
+    alloc: Global,
+    out: &mut Writer,
+    tuple: &Tuple,
+) -> Result<(), AllocError> {
     out.begin_array()?;
     for (_, value) in tuple.attributes() {
         write_cell(alloc, out, value)?;
@@ -45,46 +50,93 @@ fn write_tuple(alloc: Global, out: &mut Writer, tuple: &Tuple) -> Result<(), All
     out.end_array()
 }
 
-/// So many tuples of a relation, from one on.
+/// Why a value is not shown.
 #[derive(Clone, Copy)]
-pub(crate) struct Range {
-    pub(crate) first: u64,
-    pub(crate) count: Option<u64>,
+pub(crate) enum Unshown {
+    /// Its tuples are not ordered by the attribute of this index of the order.
+    Order { index: usize, error: SortError },
+    Memory,
 }
 
-// Appends the heading, the number of all tuples, and the tuples of the range, in one walk along all of them.
-fn write_rows(
+impl From<AllocError> for Unshown {
+    fn from(_: AllocError) -> Unshown {
+        Unshown::Memory
+    }
+}
+
+// The attributes of a heading by which tuples are ordered.
+fn keys_of(alloc: Global, heading: &Heading, order: &[OrderBy]) -> Result<Vec<SortKey>, Unshown> {
+    let mut keys = Vec::new(alloc);
+    for (index, by) in order.iter().enumerate() {
+        match sort_key(heading, by.attribute.as_str(), by.is_descending) {
+            Ok(key) => {
+                if keys.push(key).is_err() {
+                    return Err(Unshown::Memory);
+                }
+            }
+            Err(error) => return Err(Unshown::Order { index, error }),
+        }
+    }
+    Ok(keys)
+}
+
+// Appends these tuples, `count` of them from `first` on.
+fn write_tuples(
     alloc: Global,
     out: &mut Writer,
-    rows: &Rows,
-    range: Range,
+    tuples: &[&Tuple],
+    selection: &Selection<'_>,
 ) -> Result<(), AllocError> {
-    write_heading(alloc, out, rows.heading())?;
-    write_count(out, "total", rows.tuples().len() as u64)?;
+    write_count(out, "total", tuples.len() as u64)?;
     out.key("rows")?;
     out.begin_array()?;
-    let end = range.first.saturating_add(range.count.unwrap_or(u64::MAX));
-    for (i, tuple) in rows.tuples().iter().enumerate() {
-        let i = i as u64;
-        if range.first <= i && i < end {
-            write_tuple(alloc, out, tuple)?;
-        }
+    let first = usize::try_from(selection.first).unwrap_or(usize::MAX);
+    let count = match selection.count {
+        Some(count) => usize::try_from(count).unwrap_or(usize::MAX),
+        None => usize::MAX,
+    };
+    for tuple in tuples.iter().skip(first).take(count) {
+        write_tuple(alloc, out, *tuple)?;
     }
     out.end_array()
 }
 
-/// Appends the members that tell a value.
+// Appends the heading, how many tuples are selected, and those that are asked for.
+fn write_rows(
+    alloc: Global,
+    out: &mut Writer,
+    rows: &Rows,
+    selection: &Selection<'_>,
+) -> Result<(), Unshown> {
+    let keys = keys_of(alloc, rows.heading(), &selection.order)?;
+    let tuples = selected_tuples(alloc, rows.tuples(), selection.contains, &keys)?;
+    write_heading(alloc, out, rows.heading())?;
+    write_tuples(alloc, out, &tuples, selection)?;
+    Ok(())
+}
+
+/// Appends the members of a value; of a relation the tuples that are selected.
 pub(crate) fn write_value(
     alloc: Global,
     out: &mut Writer,
     value: &Value,
-    range: Range,
-) -> Result<(), AllocError> {
+    selection: &Selection<'_>,
+) -> Result<(), Unshown> {
     match &value.kind {
-        Kind::Relation(rows) => write_rows(alloc, out, rows, range),
+        Kind::Relation(rows) => write_rows(alloc, out, rows, selection),
         _ => {
             out.key("value")?;
-            write_cell(alloc, out, value)
+            write_cell(alloc, out, value)?;
+            Ok(())
         }
+    }
+}
+
+/// The text of a value: a text as it is, and any other value as the language writes it.
+pub(crate) fn cell_text(alloc: Global, value: &Value) -> Result<String, AllocError> {
+    match &value.kind {
+        Kind::Char(text) => String::from_str(alloc, text.as_str()),
+        Kind::Boolean(truth) => String::from_str(alloc, if *truth { "true" } else { "false" }),
+        _ => show(alloc, value),
     }
 }

@@ -25,4 +25,4 @@ pub mod laws;
 mod search;
 
 pub use comment::{COMMENT_BYTES, key_comment, keyed_text};
-pub use search::find_keyed;
+pub use search::{find_keyed, is_keyed_text};

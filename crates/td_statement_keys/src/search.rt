@@ -40,8 +40,8 @@ fn ends_comment(rest: &[u8]) -> bool
     are_digits(&rest[..16]) && has_prefix(b" */ ", &rest[16..])
 }
 
-// Whether a text begins with the comment of some key.
-fn is_keyed_text(text: &[u8]) -> bool
+/// Whether a text begins with the comment of some key.
+pub fn is_keyed_text(text: &[u8]) -> bool
     ensures { result ≡ keys.is_keyed_text text.now }
 {
     if text.len() < COMMENT_BYTES {
