@@ -1,5 +1,9 @@
 //! A connection of a client.
 
+ghost use Rattle.std.specs.Prelude.{◌≡◌, []};
+ghost use Rattle.http_server.specs.Exchange.{Calls};
+ghost use Rattle.td_event_loop.specs.Clients.{calls_of};
+
 use crate::limits::{ANSWER_TIME, MOST_BODY, REQUEST_TIME, TURN, WHOLE_ANSWER_TIME};
 use crate::pace::Pace;
 use crate::server::Server;
@@ -42,7 +46,9 @@ fn config() -> Config {
 }
 
 impl Client {
-    pub(crate) fn new(alloc: Global, keys: RandomState, stream: TcpStream, now: u64) -> Client {
+    pub(crate) fn new(alloc: Global, keys: RandomState, stream: TcpStream, now: u64) -> Client
+        ensures { calls_of result ≡ [] }
+    {
         Client {
             stream,
             connection: Connection::new(alloc, keys, config()),
@@ -54,12 +60,10 @@ impl Client {
         }
     }
 
-    pub(crate) fn stream_mut(&mut self) -> &mut TcpStream {
-        &mut self.stream
-    }
-
     /// Notes what an event says the socket is ready for, beside what is noted already.
-    pub(crate) fn add_readiness(&mut self, readiness: Readiness) {
+    pub(crate) fn add_readiness(&mut self, readiness: Readiness)
+        ensures { calls_of self.new ≡ calls_of self.old }
+    {
         self.readiness.add(readiness);
     }
 
@@ -82,7 +86,9 @@ impl Client {
     }
 
     // Sends what the socket takes of an answer; ended where it fails or takes nothing.
-    fn write(&mut self) -> Progress {
+    fn write(&mut self) -> Progress
+        ensures { calls_of self.new ≡ calls_of self.old }
+    {
         match transfer_of(self.connection.write_to(&mut self.stream)) {
             Transfer::Bytes(0) | Transfer::Failed => Progress::Ended,
             Transfer::Bytes(count) => {
@@ -97,7 +103,9 @@ impl Client {
     }
 
     // Reads what has come of a request; ended where the socket fails.
-    fn read(&mut self) -> Progress {
+    fn read(&mut self) -> Progress
+        ensures { calls_of self.new ≡ calls_of self.old }
+    {
         match transfer_of(self.connection.read_from(&mut self.stream)) {
             Transfer::Failed => Progress::Ended,
             Transfer::Bytes(_) => Progress::Busy,
@@ -109,7 +117,9 @@ impl Client {
     }
 
     // Reads or writes once, where that can be.
-    fn transfer(&mut self) -> Progress {
+    fn transfer(&mut self) -> Progress
+        ensures { calls_of self.new ≡ calls_of self.old }
+    {
         if self.connection.wants_write() && self.readiness.is_writable {
             return self.write();
         }
@@ -120,7 +130,9 @@ impl Client {
     }
 
     // Answers a request that has come; tells whether there was one.
-    fn answer<S: Server>(&mut self, server: &mut S) -> bool {
+    fn answer<S: Server>(&mut self, server: &mut S) -> bool
+        ensures { Calls S.answers server.old server.new (calls_of self.old) (calls_of self.new) }
+    {
         let before = server.answered();
         self.connection.advance(server);
         let is_answered = server.answered() != before;
@@ -131,7 +143,9 @@ impl Client {
     }
 
     /// Gives the client its turn: some reads and writes, and one answer at most.
-    pub(crate) fn take_turn<S: Server>(&mut self, server: &mut S, now: u64) -> Progress {
+    pub(crate) fn take_turn<S: Server>(&mut self, server: &mut S, now: u64) -> Progress
+        ensures { Calls S.answers server.old server.new (calls_of self.old) (calls_of self.new) }
+    {
         self.pace.pass(now);
         if self.is_late() {
             return Progress::Ended;
@@ -153,7 +167,9 @@ impl Client {
     }
 
     /// Sends what is left of the answer that is under way, and answers nothing more.
-    pub(crate) fn send_rest(&mut self) -> Progress {
+    pub(crate) fn send_rest(&mut self) -> Progress
+        ensures { calls_of self.new ≡ calls_of self.old }
+    {
         for _ in 0..TURN {
             if !self.connection.wants_write() {
                 return Progress::Ended;

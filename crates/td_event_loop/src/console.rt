@@ -1,5 +1,7 @@
 //! The console of a server, beside the sockets.
 
+ghost use Rattle.td_event_loop.specs.Chains.{Chain};
+
 use crate::server::Server;
 use crate::transfer::{Progress, Readiness};
 use mio::unix::SourceFd;
@@ -49,7 +51,9 @@ impl Console {
         registry: &Registry,
         token: Token,
         server: &mut S,
-    ) -> Progress {
+    ) -> Progress
+        ensures { Chain S.keeps server.old server.new }
+    {
         if !self.is_readable {
             return Progress::Waiting;
         }

@@ -1,5 +1,10 @@
 //! The loop.
 
+ghost use Rattle.std.specs.Prelude.{◌≡◌, ◌⊎◌, All, IfOk, None};
+ghost use Rattle.td_event_loop.specs.Chains.{Chain};
+ghost use Rattle.td_event_loop.specs.Clients.{ClientsPass, ComesOrGoes, TurnsClient, client_of, clients_of};
+ghost use Rattle.td_event_loop.specs.Runs.{LoopPasses, MayBegin, MeetingsPass, TurnsSlot, slot_of, slots_of, state_of};
+
 use crate::calls::Calls;
 use crate::client::Client;
 use crate::console::Console;
@@ -20,6 +25,7 @@ use std::net::{IpAddr, Net, SocketAddr};
 use std::os::fd::RawFd;
 use std::random::RandomSource;
 use std::time::{Clock, Duration, Instant};
+use td_comparison::FirstMessage;
 
 /// Where a site listens, and whom it calls.
 #[derive(Clone, Copy)]
@@ -107,7 +113,10 @@ struct Rooms {
 }
 
 impl Rooms {
-    fn new(alloc: Global, options: &LoopOptions<'_>) -> io::Result<Rooms> {
+    fn new(alloc: Global, options: &LoopOptions<'_>) -> io::Result<Rooms>
+        ensures peers { IfOk result (λ rooms. All (λ peer. peer ≡ None) rooms.peers.items) }
+        ensures clients { IfOk result (λ rooms. All (λ client. client ≡ None) rooms.clients.items) }
+    {
         Ok(Rooms {
             allowed: options.allowed.to_vec(alloc)?,
             clients: empty_slots(alloc, MOST_CLIENTS)?,
@@ -142,76 +151,211 @@ fn millis(spent: Duration) -> u64 {
         .saturating_add(u64::from(spent.subsec_millis()))
 }
 
-// Gives each meeting its turn. Returns whether one can go on at once.
-fn turn_peers<M: Meets>(
-    peers: &mut [Option<Peer>],
+// Gives the meeting of a slot its turn, and empties the slot where it ends. Returns whether it can go on at once.
+fn turn_slot<M: Meets>(
+    slot: &mut Option<Peer>,
+    meeting: usize,
     site: &mut M,
     calls: &mut Calls,
     buffer: &mut [u8],
     now: u64,
-) -> bool {
+) -> bool
+    ensures { TurnsSlot M.keeps M.settles M.finishes (slot_of slot.old) (slot_of slot.new) site.old
+        site.new }
+{
+    let Some(peer) = slot else {
+        return false;
+    };
+    let (progress, loss) = peer.take_turn(meeting, site, buffer, now);
+    match progress {
+        Progress::Busy => true,
+        Progress::Waiting => false,
+        Progress::Ended => {
+            end_meeting(peer, meeting, site, calls, loss, now);
+            *slot = None;
+            false
+        }
+    }
+}
+
+// Gives each meeting its turn. Returns whether one can go on at once.
+fn turn_peers<M: Meets>(
+    peers: &mut Vec<Option<Peer>>,
+    site: &mut M,
+    calls: &mut Calls,
+    buffer: &mut [u8],
+    now: u64,
+) -> bool
+    ensures { MeetingsPass M.keeps M.settles M.finishes (slots_of peers.old.items) site.old
+        (slots_of peers.new.items) site.new }
+{
     let mut is_busy = false;
-    for (meeting, slot) in peers.iter_mut().enumerate() {
-        let (progress, loss) = match slot {
-            Some(peer) => peer.take_turn(meeting, site, buffer, now),
-            None => (Progress::Waiting, None),
-        };
-        match progress {
-            Progress::Busy => is_busy = true,
-            Progress::Waiting => {}
-            Progress::Ended => {
-                end_meeting(slot, meeting, site, calls, loss, now);
-                *slot = None;
-            }
+    for meeting in 0..peers.len() {
+        if turn_slot(&mut peers[meeting], meeting, site, calls, buffer, now) {
+            is_busy = true;
         }
     }
     is_busy
 }
 
-// Reports to the site that the meeting of a slot ends. If this site began it, its outcome decides when the peer is
-// called again.
+// Reports to the site that a meeting ends. If this site began it, its outcome decides when the peer is called again.
 fn end_meeting<M: Meets>(
-    slot: &Option<Peer>,
+    peer: &Peer,
     meeting: usize,
     site: &mut M,
     calls: &mut Calls,
     loss: Option<Loss>,
     now: u64,
-) {
-    if let Some(peer) = slot {
-        let report = peer.report(meeting, loss);
-        let outcome = site.end(&report);
-        if report.side == MeetingSide::First {
-            calls.end(report.peer, outcome, now);
-        }
+)
+    ensures { M.keeps site.old site.new }
+{
+    let report = peer.report(meeting, loss);
+    let outcome = site.end(&report);
+    if report.side == MeetingSide::First {
+        calls.end(report.peer, outcome, now);
     }
 }
 
+// Ends the meeting of a slot as stopped, and empties the slot.
+fn stop_slot<M: Meets>(
+    slot: &mut Option<Peer>,
+    meeting: usize,
+    site: &mut M,
+    calls: &mut Calls,
+    now: u64,
+)
+    ensures site { Chain M.keeps site.old site.new }
+    ensures slot { slot.new ≡ None }
+{
+    let Some(peer) = slot else {
+        return;
+    };
+    end_meeting(peer, meeting, site, calls, Some(Loss::Stopped), now);
+    *slot = None;
+}
+
 // Ends all meetings as stopped, and empties their slots.
-fn stop_peers<M: Meets>(peers: &mut [Option<Peer>], site: &mut M, calls: &mut Calls, now: u64) {
-    for (meeting, slot) in peers.iter_mut().enumerate() {
-        end_meeting(slot, meeting, site, calls, Some(Loss::Stopped), now);
-        *slot = None;
+fn stop_peers<M: Meets>(peers: &mut Vec<Option<Peer>>, site: &mut M, calls: &mut Calls, now: u64)
+    ensures { MeetingsPass M.keeps M.settles M.finishes (slots_of peers.old.items) site.old
+        (slots_of peers.new.items) site.new }
+{
+    for meeting in 0..peers.len() {
+        stop_slot(&mut peers[meeting], meeting, site, calls, now);
     }
 }
 
 // Notes what an event says the client of a slot is ready for; an empty slot ignores it.
-fn add_readiness_of_client(clients: &mut [Option<Client>], slot: usize, readiness: Readiness) {
-    if let Some(Some(client)) = clients.get_mut(slot) {
+fn add_readiness_to_client(slot: &mut Option<Client>, readiness: Readiness)
+    ensures { client_of slot.new ≡ client_of slot.old }
+{
+    if let Some(client) = slot {
         client.add_readiness(readiness);
     }
 }
 
+// Notes what an event says a client is ready for; a number that no slot has is ignored.
+fn add_readiness_of_client(clients: &mut Vec<Option<Client>>, slot: usize, readiness: Readiness)
+    ensures { clients_of clients.new.items ≡ clients_of clients.old.items }
+{
+    if slot < clients.len() {
+        add_readiness_to_client(&mut clients[slot], readiness);
+    }
+}
+
 // Notes what an event says the peer of a slot is ready for; an empty slot ignores it.
-fn add_readiness_of_peer(peers: &mut [Option<Peer>], slot: usize, readiness: Readiness) {
-    if let Some(Some(peer)) = peers.get_mut(slot) {
+fn add_readiness_to(slot: &mut Option<Peer>, readiness: Readiness)
+    ensures { slot_of slot.new ≡ slot_of slot.old }
+{
+    if let Some(peer) = slot {
         peer.add_readiness(readiness);
+    }
+}
+
+// Notes what an event says a peer is ready for; a number that no slot has is ignored.
+fn add_readiness_of_peer(peers: &mut Vec<Option<Peer>>, slot: usize, readiness: Readiness)
+    ensures { slots_of peers.new.items ≡ slots_of peers.old.items }
+{
+    if slot < peers.len() {
+        add_readiness_to(&mut peers[slot], readiness);
+    }
+}
+
+// Gives the client of a slot its turn, and empties the slot where it ends. Returns whether it can go on at once.
+fn turn_client<S: Server>(slot: &mut Option<Client>, server: &mut S, now: u64) -> bool
+    ensures { TurnsClient S.answers (client_of slot.old) (client_of slot.new) server.old
+        server.new }
+{
+    let Some(client) = slot else {
+        return false;
+    };
+    match client.take_turn(server, now) {
+        Progress::Busy => true,
+        Progress::Waiting => false,
+        Progress::Ended => {
+            *slot = None;
+            false
+        }
+    }
+}
+
+// Gives each client its turn. Returns whether one can go on at once.
+fn turn_clients<S: Server>(clients: &mut Vec<Option<Client>>, server: &mut S, now: u64) -> bool
+    ensures { ClientsPass S.answers (clients_of clients.old.items) server.old
+        (clients_of clients.new.items) server.new }
+{
+    let mut is_busy = false;
+    for slot in 0..clients.len() {
+        if turn_client(&mut clients[slot], server, now) {
+            is_busy = true;
+        }
+    }
+    is_busy
+}
+
+// Sends what is left of the answer of a slot, and empties the slot where nothing is. Returns whether some is left.
+fn send_slot(slot: &mut Option<Client>) -> bool
+    ensures { (client_of slot.new ≡ client_of slot.old) ⊎ (slot.new ≡ None) }
+{
+    let Some(client) = slot else {
+        return false;
+    };
+    match client.send_rest() {
+        Progress::Ended => {
+            *slot = None;
+            false
+        }
+        _ => true,
+    }
+}
+
+// Sends what is left of answers. Returns whether some is left.
+fn send_rests(clients: &mut Vec<Option<Client>>) -> bool
+    ensures { Chain ComesOrGoes (clients_of clients.old.items) (clients_of clients.new.items) }
+{
+    let mut is_left = false;
+    for slot in 0..clients.len() {
+        if send_slot(&mut clients[slot]) {
+            is_left = true;
+        }
+    }
+    is_left
+}
+
+// Has the peer that the site wishes to meet, if there is one, called at once.
+fn add_wish<M: Meets>(calls: &mut Calls, site: &mut M)
+    ensures { M.keeps site.old site.new }
+{
+    if let Some(peer) = site.next_wish() {
+        calls.wish(peer);
     }
 }
 
 impl EventLoop {
     /// Listens for clients and peers. A port of 0 leaves the choice to the system.
-    pub fn bind<N: Net + AllocGlobal>(net: &N, options: &LoopOptions<'_>) -> io::Result<EventLoop> {
+    pub fn bind<N: Net + AllocGlobal>(net: &N, options: &LoopOptions<'_>) -> io::Result<EventLoop>
+        ensures peers { IfOk result (λ bound. All (λ peer. peer ≡ None) bound.peers.items) }
+        ensures clients { IfOk result (λ bound. All (λ client. client ≡ None) bound.clients.items) }
+    {
         let alloc = net.alloc();
         let Rooms {
             allowed,
@@ -268,14 +412,20 @@ impl EventLoop {
     }
 
     // Notes what an event says the console is ready for, if there is one.
-    fn add_readiness_of_console(&mut self, readiness: Readiness) {
+    fn add_readiness_of_console(&mut self, readiness: Readiness)
+        ensures peers { self.new.peers ≡ self.old.peers }
+        ensures clients { self.new.clients ≡ self.old.clients }
+    {
         if let Some(console) = &mut self.console {
             console.add_readiness(readiness);
         }
     }
 
     // Notes what an event says of its source.
-    fn add_readiness(&mut self, source: EventSource, readiness: Readiness) {
+    fn add_readiness(&mut self, source: EventSource, readiness: Readiness)
+        ensures meetings { slots_of self.new.peers.items ≡ slots_of self.old.peers.items }
+        ensures clients { clients_of self.new.clients.items ≡ clients_of self.old.clients.items }
+    {
         match source {
             EventSource::ClientListener => self.has_pending_clients = true,
             EventSource::PeerListener => self.has_pending_peers = true,
@@ -288,7 +438,10 @@ impl EventLoop {
     }
 
     // Waits for events, and takes note of them.
-    fn wait(&mut self, events: &mut Events, is_busy: bool) -> io::Result<()> {
+    fn wait(&mut self, events: &mut Events, is_busy: bool) -> io::Result<()>
+        ensures meetings { slots_of self.new.peers.items ≡ slots_of self.old.peers.items }
+        ensures clients { clients_of self.new.clients.items ≡ clients_of self.old.clients.items }
+    {
         let wait = if is_busy { 0 } else { TICK };
         self.poll.poll(events, Some(Duration::from_millis(wait)))?;
         for event in events.iter() {
@@ -309,13 +462,6 @@ impl EventLoop {
             .register(stream, source.token(), interests)
     }
 
-    // Takes a client into a slot, and has its socket watched.
-    fn keep_client(&mut self, mut client: Client, slot: usize) -> io::Result<()> {
-        self.watch(client.stream_mut(), EventSource::Client(slot))?;
-        fill_slot(&mut self.clients, slot, client);
-        Ok(())
-    }
-
     // A free slot, or that of the idlest client; none where each has an answer under way.
     fn slot_of_client(&self) -> Option<usize> {
         match free_slot(&self.clients, 0, MOST_CLIENTS) {
@@ -324,22 +470,33 @@ impl EventLoop {
         }
     }
 
-    // Takes a client into a slot; where none is free, it drops the client.
+    // Has the socket of a client watched, and takes the client into a slot; where none is free, it drops the client.
     fn add_client<H: RandomSource>(
         &mut self,
         host: &H,
-        stream: TcpStream,
+        mut stream: TcpStream,
         now: u64,
-    ) -> io::Result<()> {
+    ) -> io::Result<()>
+        ensures clients { Chain ComesOrGoes (clients_of self.old.clients.items)
+            (clients_of self.new.clients.items) }
+        ensures peers { self.new.peers ≡ self.old.peers }
+    {
         let Some(slot) = self.slot_of_client() else {
             return Ok(());
         };
         let keys = RandomState::new(host)?;
-        self.keep_client(Client::new(self.alloc, keys, stream, now), slot)
+        self.watch(&mut stream, EventSource::Client(slot))?;
+        let client = Client::new(self.alloc, keys, stream, now);
+        fill_slot(&mut self.clients, slot, client);
+        Ok(())
     }
 
     // Accepts the clients that wait, at most TURN of them; the rest waits for the next turn.
-    fn accept_clients<H: RandomSource>(&mut self, host: &H, now: u64) {
+    fn accept_clients<H: RandomSource>(&mut self, host: &H, now: u64)
+        ensures clients { Chain ComesOrGoes (clients_of self.old.clients.items)
+            (clients_of self.new.clients.items) }
+        ensures peers { self.new.peers ≡ self.old.peers }
+    {
         if !self.has_pending_clients {
             return;
         }
@@ -368,11 +525,23 @@ impl EventLoop {
         self.allowed.is_empty() || self.allowed.contains(&address)
     }
 
-    // Takes a meeting into a slot, and has its socket watched.
-    fn add_peer(&mut self, mut peer: Peer, slot: usize) -> io::Result<()> {
-        self.watch(peer.stream_mut(), EventSource::Peer(slot))?;
-        fill_slot(&mut self.peers, slot, peer);
-        Ok(())
+    // Has the socket of a peer that calls watched, and begins the meeting in this slot.
+    fn begin_accepted(
+        &mut self,
+        mut stream: TcpStream,
+        address: SocketAddr,
+        meeting: usize,
+        now: u64,
+    )
+        ensures meetings { MayBegin (slots_of self.old.peers.items) meeting
+            (slots_of self.new.peers.items) }
+        ensures clients { self.new.clients ≡ self.old.clients }
+    {
+        if self.watch(&mut stream, EventSource::Peer(meeting)).is_err() {
+            return;
+        }
+        let peer = Peer::accepted(self.alloc, stream, address, now);
+        fill_slot(&mut self.peers, meeting, peer);
     }
 
     // Begins the meeting of a connection that was accepted; the site hears of one that is refused, for its address or
@@ -383,21 +552,26 @@ impl EventLoop {
         stream: TcpStream,
         address: SocketAddr,
         now: u64,
-    ) {
+    )
+        ensures meetings { MeetingsPass M.keeps M.settles M.finishes (slots_of self.old.peers.items) site.old
+            (slots_of self.new.peers.items) site.new }
+        ensures clients { self.new.clients ≡ self.old.clients }
+    {
         if !self.is_allowed(address) {
             return site.refuse(address, PeerRefusal::Address);
         }
         match free_slot(&self.peers, 0, MOST_ACCEPTED) {
-            Some(meeting) => {
-                let peer = Peer::accepted(self.alloc, stream, address, now);
-                let _ = self.add_peer(peer, meeting);
-            }
+            Some(meeting) => self.begin_accepted(stream, address, meeting, now),
             None => site.refuse(address, PeerRefusal::Crowded),
         }
     }
 
     // Accepts the peers that wait, at most TURN of them; the rest waits for the next turn.
-    fn accept_peers<M: Meets>(&mut self, site: &mut M, now: u64) {
+    fn accept_peers<M: Meets>(&mut self, site: &mut M, now: u64)
+        ensures meetings { MeetingsPass M.keeps M.settles M.finishes (slots_of self.old.peers.items) site.old
+            (slots_of self.new.peers.items) site.new }
+        ensures clients { self.new.clients ≡ self.old.clients }
+    {
         if !self.has_pending_peers {
             return;
         }
@@ -417,30 +591,44 @@ impl EventLoop {
         }
     }
 
-    // Begins a meeting of this number with a peer.
-    fn call<N: Net, M: Meets>(
+    // Connects to a peer, has the socket watched, and begins the meeting in this slot. Returns whether it began.
+    fn begin_call<N: Net>(
         &mut self,
         net: &N,
+        address: SocketAddr,
+        meeting: usize,
+        first: FirstMessage,
+        out: Outbox,
+        now: u64,
+    ) -> bool
+        ensures meetings { MayBegin (slots_of self.old.peers.items) meeting
+            (slots_of self.new.peers.items) }
+        ensures clients { self.new.clients ≡ self.old.clients }
+    {
+        let Ok(mut stream) = TcpStream::connect(net, address) else {
+            return false;
+        };
+        if self.watch(&mut stream, EventSource::Peer(meeting)).is_err() {
+            return false;
+        }
+        let peer = Peer::called(self.alloc, stream, address, first, out, now);
+        fill_slot(&mut self.peers, meeting, peer);
+        true
+    }
+
+    // Reports to the site that a meeting ends before its peer is connected.
+    fn end_call<M: Meets>(
+        &mut self,
         site: &mut M,
         address: SocketAddr,
         meeting: usize,
+        loss: Option<Loss>,
         now: u64,
-    ) {
-        let mut out = Outbox::new(self.alloc);
-        let mut loss = None;
-        if let Some(first) = site.open(meeting, address, &mut out) {
-            let added = match TcpStream::connect(net, address) {
-                Ok(stream) => {
-                    let peer = Peer::called(self.alloc, stream, address, first, out, now);
-                    self.add_peer(peer, meeting)
-                }
-                Err(error) => Err(error),
-            };
-            if added.is_ok() {
-                return;
-            }
-            loss = Some(Loss::Disconnected);
-        }
+    )
+        ensures keeps { M.keeps site.old site.new }
+        ensures peers { self.new.peers ≡ self.old.peers }
+        ensures clients { self.new.clients ≡ self.old.clients }
+    {
         let outcome = site.end(&MeetingReport {
             meeting,
             peer: address,
@@ -450,11 +638,36 @@ impl EventLoop {
         self.calls.end(address, outcome, now);
     }
 
-    // Calls a peer that is due.
-    fn call_due<N: Net, M: Meets>(&mut self, net: &N, site: &mut M, now: u64) {
-        if let Some(peer) = site.next_wish() {
-            self.calls.wish(peer);
+    // Begins a meeting of this number with a peer.
+    fn call<N: Net, M: Meets>(
+        &mut self,
+        net: &N,
+        site: &mut M,
+        address: SocketAddr,
+        meeting: usize,
+        now: u64,
+    )
+        ensures meetings { MeetingsPass M.keeps M.settles M.finishes (slots_of self.old.peers.items) site.old
+            (slots_of self.new.peers.items) site.new }
+        ensures clients { self.new.clients ≡ self.old.clients }
+    {
+        let mut out = Outbox::new(self.alloc);
+        let Some(first) = site.open(meeting, address, &mut out) else {
+            return self.end_call(site, address, meeting, None, now);
+        };
+        if self.begin_call(net, address, meeting, first, out, now) {
+            return;
         }
+        self.end_call(site, address, meeting, Some(Loss::Disconnected), now);
+    }
+
+    // Calls a peer that is due.
+    fn call_due<N: Net, M: Meets>(&mut self, net: &N, site: &mut M, now: u64)
+        ensures meetings { MeetingsPass M.keeps M.settles M.finishes (slots_of self.old.peers.items) site.old
+            (slots_of self.new.peers.items) site.new }
+        ensures clients { self.new.clients ≡ self.old.clients }
+    {
+        add_wish(&mut self.calls, site);
         let Some(meeting) = free_slot(&self.peers, MOST_ACCEPTED, MOST_MEETINGS) else {
             return;
         };
@@ -463,49 +676,31 @@ impl EventLoop {
         }
     }
 
-    // Gives each client its turn; returns whether one can go on at once.
-    fn turn_clients<S: Server>(&mut self, server: &mut S, now: u64) -> bool {
-        let mut is_busy = false;
-        for slot in &mut self.clients {
-            let progress = match slot {
-                Some(client) => client.take_turn(server, now),
-                None => Progress::Waiting,
-            };
-            match progress {
-                Progress::Busy => is_busy = true,
-                Progress::Waiting => {}
-                Progress::Ended => *slot = None,
-            }
-        }
-        is_busy
-    }
-
     // Has the server read its console, if that can be read.
-    fn turn_console<S: Server>(&mut self, server: &mut S) {
-        let progress = match &mut self.console {
-            Some(console) => {
-                let token = EventSource::Console.token();
-                console.take_turn(self.poll.registry(), token, server)
-            }
-            None => Progress::Waiting,
+    fn turn_console<S: Server>(&mut self, server: &mut S)
+        ensures keeps { Chain S.keeps server.old server.new }
+        ensures peers { self.new.peers ≡ self.old.peers }
+        ensures clients { self.new.clients ≡ self.old.clients }
+    {
+        let Some(console) = &mut self.console else {
+            return;
         };
-        if progress == Progress::Ended {
+        let token = EventSource::Console.token();
+        if console.take_turn(self.poll.registry(), token, server) == Progress::Ended {
             self.console = None;
         }
     }
 
     // Gives all their turn; returns whether one can go on at once.
-    fn turn<S: Server, H: Net + RandomSource>(
-        &mut self,
-        host: &H,
-        server: &mut S,
-        now: u64,
-    ) -> bool {
+    fn turn<S: Server, H: Net + RandomSource>(&mut self, host: &H, server: &mut S, now: u64) -> bool
+        ensures { LoopPasses S.answers S.keeps S.settles S.finishes (state_of self.old server.old)
+            (state_of self.new server.new) }
+    {
         self.turn_console(server);
         self.accept_clients(host, now);
         self.accept_peers(server, now);
         self.call_due(host, server, now);
-        let has_busy_client = self.turn_clients(server, now);
+        let has_busy_client = turn_clients(&mut self.clients, server, now);
         let has_busy_peer = turn_peers(
             &mut self.peers,
             server,
@@ -513,24 +708,7 @@ impl EventLoop {
             &mut self.buffer,
             now,
         );
-        has_busy_client || has_busy_peer
-    }
-
-    // Sends what is left of answers; returns whether some is left.
-    fn send_rests(&mut self) -> bool {
-        let mut is_left = false;
-        for slot in &mut self.clients {
-            let progress = match slot {
-                Some(client) => client.send_rest(),
-                None => Progress::Ended,
-            };
-            if progress == Progress::Ended {
-                *slot = None;
-            } else {
-                is_left = true;
-            }
-        }
-        is_left
+        has_busy_client | has_busy_peer
     }
 
     // Ends all meetings, and sends the answers that are under way.
@@ -539,13 +717,18 @@ impl EventLoop {
         host: &H,
         server: &mut S,
         events: &mut Events,
-    ) -> io::Result<()> {
+    ) -> io::Result<()>
+        ensures meetings { MeetingsPass S.keeps S.settles S.finishes (slots_of self.old.peers.items) server.old
+            (slots_of self.new.peers.items) server.new }
+        ensures clients { Chain ComesOrGoes (clients_of self.old.clients.items)
+            (clients_of self.new.clients.items) }
+    {
         self.client_listener = None;
         self.peer_listener = None;
         stop_peers(&mut self.peers, server, &mut self.calls, 0);
         let begun = Instant::now(host)?;
         for _ in 0..u64::MAX {
-            if !self.send_rests() || millis(begun.elapsed(host)?) > STOP_TIME {
+            if !send_rests(&mut self.clients) || millis(begun.elapsed(host)?) > STOP_TIME {
                 return Ok(());
             }
             self.wait(events, false)?;
@@ -554,7 +737,10 @@ impl EventLoop {
     }
 
     // The time from which milliseconds are counted: that of the first run.
-    fn begin<H: Clock>(&mut self, host: &H) -> io::Result<Instant> {
+    fn begin<H: Clock>(&mut self, host: &H) -> io::Result<Instant>
+        ensures peers { self.new.peers ≡ self.old.peers }
+        ensures clients { self.new.clients ≡ self.old.clients }
+    {
         let begun = match self.begun {
             Some(begun) => begun,
             None => Instant::now(host)?,
@@ -571,7 +757,10 @@ impl EventLoop {
         &mut self,
         host: &H,
         server: &mut S,
-    ) -> io::Result<()> {
+    ) -> io::Result<()>
+        ensures { LoopPasses S.answers S.keeps S.settles S.finishes (state_of self.old server.old)
+            (state_of self.new server.new) }
+    {
         let mut events = Events::with_capacity(self.alloc, MOST_EVENTS)?;
         let begun = self.begin(host)?;
         let mut is_busy = false;

@@ -1,6 +1,7 @@
 //! What a peer has sent.
 
-ghost use Rattle.std.specs.Prelude.{◌≤◌, ◌↔◌, IsTrue, length, vec_len};
+ghost use Rattle.std.specs.Prelude.{◌≡◌, ◌≤◌, ◌↔◌, ◌++◌, ℕ, List, [], IfOk, IsTrue, OnErr, drop, length, vec_len};
+ghost use Rattle.std.specs.Io.KnownBytes.{Consumes};
 
 use crate::limits::MOST_BYTES;
 use std::alloc::Global;
@@ -16,7 +17,9 @@ pub(crate) struct Inbox {
 }
 
 impl Inbox {
-    pub(crate) fn new(alloc: Global) -> Inbox {
+    pub(crate) fn new(alloc: Global) -> Inbox
+        ensures { result.bytes.items ≡ [] }
+    {
         Inbox {
             bytes: Vec::new(alloc),
             has_ended: false,
@@ -25,7 +28,8 @@ impl Inbox {
 
     /// All that has come so far.
     pub(crate) fn bytes(&self) -> &[u8]
-        ensures { length result.now ≤ MOST_BYTES }
+        ensures value { result.now ≡ self.now.bytes.items }
+        ensures within { length result.now ≤ MOST_BYTES }
     {
         &self.bytes
     }
@@ -43,12 +47,16 @@ impl Inbox {
     }
 
     /// Reads no more: the connection failed.
-    pub(crate) fn close(&mut self) {
+    pub(crate) fn close(&mut self)
+        ensures { self.new.bytes ≡ self.old.bytes }
+    {
         self.has_ended = true;
     }
 
     /// Drops bytes that were read, from the first one on, and makes room for more.
-    pub(crate) fn drop_front(&mut self, count: usize) {
+    pub(crate) fn drop_front(&mut self, count: usize)
+        ensures { self.new.bytes.items ≡ drop count self.old.bytes.items }
+    {
         let length = self.bytes.len();
         let count = count.min(length);
         self.bytes.rotate_left(count);
@@ -60,7 +68,12 @@ impl Inbox {
         &mut self,
         reader: &mut R,
         buffer: &mut [u8],
-    ) -> io::Result<usize> {
+    ) -> io::Result<usize>
+        ensures ok { IfOk result (λ n. (more : List ℕ) × (length more ≡ n)
+            × Consumes (R.remaining reader.old) (R.remaining reader.new) more
+            × (self.new.bytes.items ≡ self.old.bytes.items ++ more)) }
+        ensures err { OnErr result (self.new.bytes.items ≡ self.old.bytes.items) }
+    {
         let room = (MOST_BYTES - self.bytes.len()).min(buffer.len());
         let part = &mut buffer[..room];
         let count = reader.read(part)?;

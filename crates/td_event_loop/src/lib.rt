@@ -10,7 +10,10 @@
 //! event_loop.run(&rt, &mut server)?;
 //! ```
 //!
-//! Its definitions are in `specs/`: Tokens, the number of the token of each source of events.
+//! Its definitions are in `specs/`: Tokens, the number of the token of each source of events; Clients, the steps that
+//! concern clients: one comes or goes, or requests that it has sent are answered; Meetings, which stages of a meeting
+//! follow one another, and which call of the site each makes, over which bytes; Runs, the steps of the loop.
+//! `EventLoop::run` ensures that it passes from one state to the next by a Chain of these steps alone.
 //!
 //! Costs: a turn walks along all connections, at most 64 clients and 12 meetings; while an answer or a step of a
 //! meeting runs, all others wait. A meeting keeps at most 1.5 MiB of what its peer sent, and of what is sent to it.

@@ -1,6 +1,7 @@
 //! What a peer is sent.
 
-ghost use Rattle.std.specs.Prelude.{◌≤◌, ◌↔◌, IsTrue, vec_len};
+ghost use Rattle.std.specs.Prelude.{◌≡◌, ◌+◌, ◌≤◌, ◌↔◌, IfOk, IsTrue, OnErr, drop, take, vec_len};
+ghost use Rattle.std.specs.Io.KnownBytes.{Appends, Keeps};
 
 use crate::limits::MOST_BYTES;
 use std::alloc::Global;
@@ -53,7 +54,14 @@ impl Outbox {
     }
 
     /// Sends some of the bytes that are not sent yet, by one write.
-    pub(crate) fn send_to<W: Write>(&mut self, writer: &mut W) -> io::Result<usize> {
+    pub(crate) fn send_to<W: Write>(&mut self, writer: &mut W) -> io::Result<usize>
+        ensures ok { IfOk result (λ n. (self.new.sent ≡ self.old.sent + n)
+            × Appends (W.contents writer.old) (W.contents writer.new)
+            (take n (drop self.old.sent self.old.bytes.items))) }
+        ensures err { OnErr result ((self.new.sent ≡ self.old.sent)
+            × Keeps (W.contents writer.old) (W.contents writer.new)) }
+        ensures bytes { self.new.bytes ≡ self.old.bytes }
+    {
         let count = writer.write(&self.bytes[self.sent..])?;
         self.sent += count;
         Ok(count)

@@ -1,6 +1,8 @@
 //! A meeting, step by step, over a socket that never blocks.
 
-ghost use Rattle.std.specs.Prelude.{◌≤◌};
+ghost use Rattle.std.specs.Prelude.{◌≡◌, ◌≤◌, ◌⊎◌, IfSome, drop};
+ghost use Rattle.td_event_loop.specs.Meetings.{Drops, Follows, IsAnswered, IsNewMeeting, Reads, StepAt, TakesTurn, UnlessEnded, Waits, end_in, inbox_of, meeting_left, meeting_of};
+ghost use Rattle.td_event_loop.specs.declared.meets.StepResult.{StepResult};
 
 use crate::inbox::Inbox;
 use crate::limits::TURN;
@@ -17,7 +19,7 @@ use td_stream_bounds::{Extent, StreamScanner, greeting_extent};
 
 /// What is awaited.
 #[derive(Clone, Copy, PartialEq, Eq)]
-enum Stage {
+pub(crate) enum Stage {
     /// The second site waits for a question or a greeting.
     Opening,
     /// The second site has answered a question, and waits for the sites that differ.
@@ -52,7 +54,8 @@ pub(crate) struct Peer {
 
 // Where a message ends that reaches so far among so many bytes.
 fn end_of(extent: Extent, length: usize) -> usize
-    ensures { result ≤ length }
+    ensures value { result ≡ end_in extent length }
+    ensures within { result ≤ length }
 {
     match extent {
         Extent::Whole(end) => end.min(length),
@@ -60,14 +63,33 @@ fn end_of(extent: Extent, length: usize) -> usize
     }
 }
 
+// The stage of a meeting that this site begins.
+fn first_stage(first: FirstMessage) -> Stage
+    ensures { (result ≡ Stage.Comparison) ⊎ (result ≡ Stage.Reply) }
+{
+    match first {
+        FirstMessage::Question => Stage::Comparison,
+        FirstMessage::Greeting => Stage::Reply,
+    }
+}
+
+// The stage after a step of the site: the next one, or that in which this side's last bytes are sent. None where the
+// meeting ends at once.
+fn stage_after(step: StepResult, next: Stage, side: MeetingSide) -> Option<Stage>
+    ensures { IfSome result (λ stage. (stage ≡ next) ⊎ (stage ≡ Stage.Parting side)) }
+{
+    match step {
+        StepResult::Continue => Some(next),
+        StepResult::Part => Some(Stage::Parting(side)),
+        StepResult::Stop => None,
+    }
+}
+
 impl Peer {
     /// A meeting that a peer begins.
-    pub(crate) fn accepted(
-        alloc: Global,
-        stream: TcpStream,
-        address: SocketAddr,
-        now: u64,
-    ) -> Peer {
+    pub(crate) fn accepted(alloc: Global, stream: TcpStream, address: SocketAddr, now: u64) -> Peer
+        ensures { IsNewMeeting (meeting_of result) }
+    {
         Peer {
             stream,
             address,
@@ -91,15 +113,13 @@ impl Peer {
         first: FirstMessage,
         out: Outbox,
         now: u64,
-    ) -> Peer {
-        let stage = match first {
-            FirstMessage::Question => Stage::Comparison,
-            FirstMessage::Greeting => Stage::Reply,
-        };
+    ) -> Peer
+        ensures { IsNewMeeting (meeting_of result) }
+    {
         Peer {
             stream,
             address,
-            stage,
+            stage: first_stage(first),
             readiness: Readiness {
                 is_readable: false,
                 is_writable: false,
@@ -111,12 +131,10 @@ impl Peer {
         }
     }
 
-    pub(crate) fn stream_mut(&mut self) -> &mut TcpStream {
-        &mut self.stream
-    }
-
     /// Notes what an event says the socket is ready for, beside what is noted already.
-    pub(crate) fn add_readiness(&mut self, readiness: Readiness) {
+    pub(crate) fn add_readiness(&mut self, readiness: Readiness)
+        ensures { Waits self.old self.new }
+    {
         self.readiness.add(readiness);
     }
 
@@ -155,7 +173,9 @@ impl Peer {
     }
 
     // Whether the question or the greeting has come whole, or never will.
-    fn has_opening(&mut self) -> bool {
+    fn has_opening(&mut self) -> bool
+        ensures { Waits self.old self.new }
+    {
         if self.is_asked() {
             return self.has_message(comparison_extent(self.inbox.bytes()));
         }
@@ -163,7 +183,9 @@ impl Peer {
     }
 
     // Whether the greeting has come whole, or never will.
-    fn has_greeting(&mut self) -> bool {
+    fn has_greeting(&mut self) -> bool
+        ensures { Waits self.old self.new }
+    {
         if self.scanner.is_some() {
             return true;
         }
@@ -178,7 +200,9 @@ impl Peer {
     }
 
     // Whether the entries have come whole, or never will. Without a greeting they never will.
-    fn has_entries(&mut self) -> bool {
+    fn has_entries(&mut self) -> bool
+        ensures { Waits self.old self.new }
+    {
         match &mut self.scanner {
             Some(scanner) => match scanner.advance(self.inbox.bytes()) {
                 Extent::Open => self.inbox.is_closed(),
@@ -189,24 +213,31 @@ impl Peer {
     }
 
     // Answers the question or the greeting that came.
-    fn answer_opening<M: Meets>(&mut self, meeting: usize, site: &mut M) -> Progress {
+    fn answer_opening<M: Meets>(&mut self, meeting: usize, site: &mut M) -> Progress
+        ensures keeps { M.keeps site.old site.new }
+        ensures drops { Drops self.old self.new }
+        ensures next { UnlessEnded result (Follows Stage.Opening (inbox_of self.old) self.new.stage) }
+    {
         if !self.is_asked() {
             return self.answer(meeting, site);
         }
         let bytes = self.inbox.bytes();
         let end = end_of(comparison_extent(bytes), bytes.len());
-        let question = &bytes[..end];
-        self.stage = match site.answer_question(meeting, question, &mut self.outbox) {
-            StepResult::Continue => Stage::Differences,
-            StepResult::Part => Stage::Parting(MeetingSide::Second),
-            StepResult::Stop => return Progress::Ended,
+        let step = site.answer_question(meeting, &bytes[..end], &mut self.outbox);
+        let Some(stage) = stage_after(step, Stage::Differences, MeetingSide::Second) else {
+            return Progress::Ended;
         };
+        self.stage = stage;
         self.inbox.drop_front(end);
         Progress::Busy
     }
 
     // Hands the sites that differ to the site, and waits for the greeting.
-    fn add_differences<M: Meets>(&mut self, meeting: usize, site: &mut M) -> Progress {
+    fn add_differences<M: Meets>(&mut self, meeting: usize, site: &mut M) -> Progress
+        ensures keeps { M.keeps site.old site.new }
+        ensures drops { Drops self.old self.new }
+        ensures next { UnlessEnded result (self.new.stage ≡ Stage.Greeting) }
+    {
         let bytes = self.inbox.bytes();
         let end = end_of(differences_extent(bytes), bytes.len());
         if site.add_differences(meeting, &bytes[..end]) != StepResult::Continue {
@@ -219,34 +250,46 @@ impl Peer {
     }
 
     // Hands the answer to a question to the site, which writes which sites differ and its greeting.
-    fn compare<M: Meets>(&mut self, meeting: usize, site: &mut M) -> Progress {
+    fn compare<M: Meets>(&mut self, meeting: usize, site: &mut M) -> Progress
+        ensures keeps { M.keeps site.old site.new }
+        ensures drops { Drops self.old self.new }
+        ensures next { UnlessEnded result (Follows Stage.Comparison (inbox_of self.old)
+            self.new.stage) }
+    {
         self.outbox.clear_sent();
         let bytes = self.inbox.bytes();
         let end = end_of(comparison_extent(bytes), bytes.len());
-        let answer = &bytes[..end];
-        self.stage = match site.compare(meeting, self.address, answer, &mut self.outbox) {
-            StepResult::Continue => Stage::Reply,
-            StepResult::Part => Stage::Parting(MeetingSide::First),
-            StepResult::Stop => return Progress::Ended,
+        let step = site.compare(meeting, self.address, &bytes[..end], &mut self.outbox);
+        let Some(stage) = stage_after(step, Stage::Reply, MeetingSide::First) else {
+            return Progress::Ended;
         };
+        self.stage = stage;
         self.inbox.drop_front(end);
         Progress::Busy
     }
 
     // Answers the greeting that came; then it waits for entries, sends its last bytes, or ends, as the site decides.
-    fn answer<M: Meets>(&mut self, meeting: usize, site: &mut M) -> Progress {
+    fn answer<M: Meets>(&mut self, meeting: usize, site: &mut M) -> Progress
+        ensures keeps { M.keeps site.old site.new }
+        ensures drops { Drops self.old self.new }
+        ensures next { UnlessEnded result (IsAnswered (inbox_of self.old) self.new.stage) }
+    {
         let bytes = self.inbox.bytes();
         let end = end_of(greeting_extent(bytes), bytes.len());
-        self.stage = match site.answer(meeting, &bytes[..end], &mut self.outbox) {
-            StepResult::Continue => Stage::Entries(end),
-            StepResult::Part => Stage::Parting(MeetingSide::Second),
-            StepResult::Stop => return Progress::Ended,
+        let step = site.answer(meeting, &bytes[..end], &mut self.outbox);
+        let Some(stage) = stage_after(step, Stage::Entries(end), MeetingSide::Second) else {
+            return Progress::Ended;
         };
+        self.stage = stage;
         Progress::Busy
     }
 
     // Hands the entries that came to the site, as the last step of the meeting.
-    fn finish<M: Meets>(&mut self, meeting: usize, entries_at: usize, site: &mut M) -> Progress {
+    fn finish<M: Meets>(&mut self, meeting: usize, entries_at: usize, site: &mut M) -> Progress
+        ensures finishes { M.finishes site.old (drop entries_at (inbox_of self.old)) site.new }
+        ensures same { self.new ≡ self.old }
+        ensures ends { result ≡ Progress.Ended }
+    {
         let bytes = self.inbox.bytes();
         let from = entries_at.min(bytes.len());
         site.finish(meeting, &bytes[from..]);
@@ -255,7 +298,11 @@ impl Peer {
 
     // Hands what the peer replied to the site, which writes the entries that the peer lacks; ended where the site
     // stops.
-    fn settle<M: Meets>(&mut self, meeting: usize, site: &mut M) -> Progress {
+    fn settle<M: Meets>(&mut self, meeting: usize, site: &mut M) -> Progress
+        ensures settles { (step : StepResult) × M.settles site.old (inbox_of self.old) step site.new }
+        ensures kept { inbox_of self.new ≡ inbox_of self.old }
+        ensures next { UnlessEnded result (self.new.stage ≡ Stage.Parting MeetingSide.First) }
+    {
         let reply = self.inbox.bytes();
         if site.settle(meeting, self.address, reply, &mut self.outbox) == StepResult::Stop {
             return Progress::Ended;
@@ -265,7 +312,10 @@ impl Peer {
     }
 
     // Sends no more; where the inbox is full, the first site goes on to drain the socket, otherwise the meeting ends.
-    fn part(&mut self, side: MeetingSide) -> Progress {
+    fn part(&mut self, side: MeetingSide) -> Progress
+        ensures kept { inbox_of self.new ≡ inbox_of self.old }
+        ensures next { UnlessEnded result (self.new.stage ≡ Stage.Draining) }
+    {
         let _ = self.stream.shutdown(Shutdown::Write);
         if side == MeetingSide::First && self.inbox.is_full() {
             self.stage = Stage::Draining;
@@ -275,7 +325,9 @@ impl Peer {
     }
 
     // Whether all has come that the next step needs.
-    fn is_ready(&mut self) -> bool {
+    fn is_ready(&mut self) -> bool
+        ensures { Waits self.old self.new }
+    {
         match self.stage {
             Stage::Opening => self.has_opening(),
             Stage::Differences => self.has_message(differences_extent(self.inbox.bytes())),
@@ -288,11 +340,14 @@ impl Peer {
         }
     }
 
-    // Takes the next step, if it can be taken.
-    fn take_step<M: Meets>(&mut self, meeting: usize, site: &mut M) -> Progress {
-        if !self.is_ready() {
-            return Progress::Waiting;
-        }
+    // Takes the next step, for which all has come.
+    fn take_step<M: Meets>(&mut self, meeting: usize, site: &mut M) -> Progress
+        ensures step { StepAt M.keeps M.settles M.finishes self.old.stage (inbox_of self.old)
+            site.old site.new }
+        ensures drops { Drops self.old self.new }
+        ensures next { UnlessEnded result (Follows self.old.stage (inbox_of self.old)
+            self.new.stage) }
+    {
         match self.stage {
             Stage::Opening => self.answer_opening(meeting, site),
             Stage::Differences => self.add_differences(meeting, site),
@@ -307,7 +362,9 @@ impl Peer {
 
     // Ends a meeting whose connection failed. A peer that ends it in place of an answer to a question may not compare:
     // the site hears that as an answer of no bytes.
-    fn fail(&mut self) -> Progress {
+    fn fail(&mut self) -> Progress
+        ensures { Waits self.old self.new }
+    {
         let is_unanswered = self.stage == Stage::Comparison
             && self.inbox.bytes().is_empty()
             && self.outbox.has_sent()
@@ -320,7 +377,9 @@ impl Peer {
     }
 
     // Sends what the socket takes of the outbox; ended where it fails or takes nothing.
-    fn write(&mut self) -> Progress {
+    fn write(&mut self) -> Progress
+        ensures { Waits self.old self.new }
+    {
         match transfer_of(self.outbox.send_to(&mut self.stream)) {
             Transfer::Bytes(0) | Transfer::Failed => self.fail(),
             Transfer::Bytes(count) => {
@@ -335,7 +394,9 @@ impl Peer {
     }
 
     // Reads what has come into the inbox; ended where the socket fails.
-    fn read(&mut self, buffer: &mut [u8]) -> Progress {
+    fn read(&mut self, buffer: &mut [u8]) -> Progress
+        ensures { Reads self.old self.new }
+    {
         match transfer_of(self.inbox.read_from(&mut self.stream, buffer)) {
             Transfer::Failed => self.fail(),
             Transfer::Bytes(count) => {
@@ -350,7 +411,9 @@ impl Peer {
     }
 
     // Reads what has come and drops it; ended where the other side has closed or the socket fails.
-    fn drain(&mut self, buffer: &mut [u8]) -> Progress {
+    fn drain(&mut self, buffer: &mut [u8]) -> Progress
+        ensures { Waits self.old self.new }
+    {
         match transfer_of(self.stream.read(buffer)) {
             Transfer::Bytes(0) | Transfer::Failed => Progress::Ended,
             Transfer::Bytes(count) => {
@@ -365,7 +428,9 @@ impl Peer {
     }
 
     // Reads or writes once, where that can be.
-    fn transfer(&mut self, buffer: &mut [u8]) -> Progress {
+    fn transfer(&mut self, buffer: &mut [u8]) -> Progress
+        ensures { Reads self.old self.new }
+    {
         if !self.outbox.is_sent() && self.readiness.is_writable {
             return self.write();
         }
@@ -383,23 +448,24 @@ impl Peer {
         site: &mut M,
         buffer: &mut [u8],
         now: u64,
-    ) -> (Progress, Option<Loss>) {
+    ) -> (Progress, Option<Loss>)
+        ensures { TakesTurn M.keeps M.settles M.finishes (meeting_of self.old)
+            (meeting_left result.0 self.new) site.old site.new }
+    {
         self.pace.pass(now);
         let loss = self.pace.loss();
         if self.stage == Stage::Draining {
-            let progress = match loss {
-                Some(_) => Progress::Ended,
-                None => self.drain(buffer),
-            };
-            return (progress, None);
+            if loss.is_some() {
+                return (Progress::Ended, None);
+            }
+            return (self.drain(buffer), None);
         }
         if loss.is_some() {
             return (Progress::Ended, loss);
         }
         for _ in 0..TURN {
-            match self.take_step(meeting, site) {
-                Progress::Waiting => {}
-                progress => return (progress, None),
+            if self.is_ready() {
+                return (self.take_step(meeting, site), None);
             }
             match self.transfer(buffer) {
                 Progress::Busy => {}

@@ -1,0 +1,4 @@
+pub mod Answered
+pub mod Passing
+pub mod Shown
+pub mod Turns

@@ -1,0 +1,5 @@
+use Rattle.td_event_loop.proofs.Passing.{begun}
+use Rattle.td_event_loop.proofs.event_loop.EventLoop.begin_call.Goals as goal
+
+pub returns-clause-meetings : goal.returns-clause-meetings
+returns-clause-meetings g c = begun _ _ _ _ c.called-peer.ensures c.fill_slot.ensures
