@@ -75,7 +75,7 @@ last_none (b ∷ bs) cs e = absurd cc
 
 module _ (v : Version) (most : ℕ) (xs es : List Entry) (bytes rest : List ℕ)
     (whole : entries_at v most (bytes ++ rest) ≡ (xs, Ok [])) where
-  not_refused : (m : Miss) → m ≢ short → entries_at v most bytes ≡ (es, Err m) → ⊥
+  pub not_refused : (m : Miss) → m ≢ short → entries_at v most bytes ≡ (es, Err m) → ⊥
   not_refused m other read =
       let refused = stream_refuses v most bytes rest es m other read in
       let same : Ok [] ≡ Err m = ap (λ (r : Entries). r.1) (sym whole ∙ refused) in
@@ -92,7 +92,7 @@ module _ (v : Version) (most : ℕ) (xs es : List Entry) (bytes rest : List ℕ)
   ends_short (Err bad) some read = absurd (not_refused bad (λ e. absurd cc) read)
 
 -- entries whose frames are whole are read, whatever follows
-read_all : (v : Version) (most : ℕ) (ys : List Entry) (part : List ℕ) → length ys ≤ most
+pub read_all : (v : Version) (most : ℕ) (ys : List Entry) (part : List ℕ) → length ys ≤ most
     → AllByRecursion (HasFrame v) ys → length ys ≤ length (entries_at v most (entry_frames v ys ++ part)).0
 unfolding entries_at
 read_all v most [] part within framed = omega arith
@@ -108,14 +108,14 @@ read_all v (suc n) (y ∷ ys) part within framed =
     subst (λ (r : Result (Option Entry × List ℕ) Miss). suc (length ys) ≤ length (with_frame (entries_at v n) r).0)
     (sym read) later
 
-framed_front : (v : Version) (n : ℕ) (xs : List Entry) → AllByRecursion (HasFrame v) xs
+pub framed_front : (v : Version) (n : ℕ) (xs : List Entry) → AllByRecursion (HasFrame v) xs
     → AllByRecursion (HasFrame v) (take n xs)
 framed_front v zero xs framed = tt
 framed_front v (suc n) [] framed = tt
 framed_front v (suc n) (x ∷ xs) framed = (framed.0, framed_front v n xs framed.1)
 
 -- what a stream is split into is read as a whole stream
-read_whole : (v : Version) (most : ℕ) (xs : List Entry) (bytes rest : List ℕ) → length xs ≤ most
+pub read_whole : (v : Version) (most : ℕ) (xs : List Entry) (bytes rest : List ℕ) → length xs ≤ most
     → AllByRecursion (HasFrame v) xs → bytes ++ rest ≡ stream v xs → entries_at v most (bytes ++ rest) ≡ (xs, Ok [])
 read_whole v most xs bytes rest within framed split =
     ap (entries_at v most) (split ∙ sym (append-nil (stream v xs))) ∙ stream_again v most xs [] within framed
@@ -156,14 +156,14 @@ taken_short s frame_error.BadFrame fresh left rest old new after m xs more whole
     absurd (not_refused Second most_entries xs m.entries m.bytes more whole bad (λ e. absurd cc) m.told.0)
 
 -- what was read of a front, and what is behind it
-behind : (came lost bytes : List ℕ) (rest : Option (List ℕ)) → Consumes (Some came) rest bytes
+pub behind : (came lost bytes : List ℕ) (rest : Option (List ℕ)) → Consumes (Some came) rest bytes
     → (more : List ℕ) × (bytes ++ more ≡ came ++ lost)
 behind came lost bytes None consumed = absurd consumed
 behind came lost bytes (Some rest) consumed =
     (rest ++ lost, sym (append_assoc bytes rest lost) ∙ ap (λ (l : List ℕ). l ++ lost) (sym consumed))
 
 -- the site that sends is within a limit
-few_kept : (keep : Entry → Bool) (t : Seen) (v : VersionVector) (limit : ℕ) → is_limit limit ≡ true
+pub few_kept : (keep : Entry → Bool) (t : Seen) (v : VersionVector) (limit : ℕ) → is_limit limit ≡ true
     → length t.entries ≤ limit → length (kept_after keep v t) ≤ most_entries
 few_kept keep t v limit is within =
     let parts = length-filter_both keep (λ x. not (keep x)) (λ x. refl) (after_vector v t.entries) in
@@ -175,7 +175,7 @@ module _ (keep : Entry → Bool) (s t : Seen) (v : VersionVector) (within : leng
   abbrev sent : List Entry
   sent = kept_after keep v t
 
-  misses_some : (came lost : List ℕ) (rest : Option (List ℕ)) (e : FrameError) (old new fresh : ℕ) (after : Seen)
+  pub misses_some : (came lost : List ℕ) (rest : Option (List ℕ)) (e : FrameError) (old new fresh : ℕ) (after : Seen)
       → came ++ lost ≡ stream Second sent → MissesEntries s e fresh (Some came) rest old new after
       → GainsSome keep s t fresh after
   misses_some came lost rest e old new fresh after split m =
@@ -195,7 +195,7 @@ module _ (keep : Entry → Bool) (s t : Seen) (v : VersionVector) (within : leng
       )
 
 -- a longer front has what a front has
-front_has : (n k : ℕ) (xs : List Entry) (x : Entry) → length (take n xs) ≤ k → has (take n xs) x ≡ true
+pub front_has : (n k : ℕ) (xs : List Entry) (x : Entry) → length (take n xs) ≤ k → has (take n xs) x ≡ true
     → has (take k xs) x ≡ true
 front_has zero k xs x le here = absurd (false≢true here)
 front_has (suc n) k [] x le here = absurd (false≢true here)
@@ -206,7 +206,7 @@ front_has (suc n) (suc k) (y ∷ xs) x le here = elim (or_cases (same x y) (has 
 ]
 
 -- what was read, where nothing is left
-read_to_end : (came bytes : List ℕ) (rest : Option (List ℕ)) → Consumes (Some came) rest bytes → IsAtEnd rest
+pub read_to_end : (came bytes : List ℕ) (rest : Option (List ℕ)) → Consumes (Some came) rest bytes → IsAtEnd rest
     → bytes ≡ came
 read_to_end came bytes None consumed end = absurd consumed
 read_to_end came bytes (Some rest) consumed end =
@@ -245,7 +245,7 @@ cut_finish_takes_some keep s t v came lost rest e old new fresh after sound is f
 -- ---- what is behind a greeting that came whole
 
 -- a greeting that is read of a front is read of all
-front_greets : (came lost rest : List ℕ) (g : Greeting) → ReadsGreeting (Some came) (Some rest) g
+pub front_greets : (came lost rest : List ℕ) (g : Greeting) → ReadsGreeting (Some came) (Some rest) g
     → ReadsGreeting (Some (came ++ lost)) (Some (rest ++ lost)) g
 front_greets came lost rest g reads = record {
   bytes = reads.bytes;
@@ -254,7 +254,7 @@ front_greets came lost rest g reads = record {
 }
 
 -- what follows it is a front of what was sent
-behind_greeting : (t : Seen) (own came lost rest more : List ℕ) (g : Greeting) → Greets t own
+pub behind_greeting : (t : Seen) (own came lost rest more : List ℕ) (g : Greeting) → Greets t own
     → came ++ lost ≡ own ++ more → ReadsGreeting (Some came) (Some rest) g → rest ++ lost ≡ more
 behind_greeting t own came lost rest more g greets split reads =
     let is = ap greeting_at split ∙ greets_read t own more greets in
@@ -328,7 +328,7 @@ cut_settle_loses_none keep s t v own came more lost old new fresh after x sound 
 -- ---- the steps
 
 module _ (t : Seen) (v : VersionVector) where
-  every_sent : sends t v ≡ stream Second (kept_after every v t)
+  pub every_sent : sends t v ≡ stream Second (kept_after every v t)
   every_sent = ap (stream Second) (sym (filter_all (after_vector v t.entries)))
 
   every_framed : AreSent t v → AllByRecursion (HasFrame Second) (kept_after every v t)
@@ -351,7 +351,7 @@ cut_answer_takes_some s t after e fresh sound meet =
     (every_framed t g.vector sent) a.comes split meet.settled
 
 -- a site that took a batch is within its limit
-within_limit : (s : Seen) (batch : List Entry) (gains : Taken) (after : Seen) → IsSound s
+pub within_limit : (s : Seen) (batch : List Entry) (gains : Taken) (after : Seen) → IsSound s
     → TakesBatch s batch gains after → length after.entries ≤ s.limit
 within_limit s batch gains after sound takes =
     let fits = added s.entries s.limit batch sound.set sound.ranges

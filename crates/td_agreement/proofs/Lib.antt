@@ -5,3 +5,5 @@ pub mod Agreeing
 pub mod Interleaved
 pub mod Progress
 pub mod CutStreams
+pub mod CutWriters
+pub mod CutScopes

@@ -3,3 +3,5 @@ pub mod Laws
 pub mod Interleaved
 pub mod Progress
 pub mod CutStreams
+pub mod CutWriters
+pub mod CutScopes

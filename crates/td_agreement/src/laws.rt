@@ -6,6 +6,10 @@ ghost use Rattle.td_agreement.specs.Progress.{CutMeetingsProgress};
 ghost use Rattle.td_agreement.specs.CutStreams.{CutAnswerTakesSome, CutFinishLosesNone, CutFinishTakesSome};
 ghost use Rattle.td_agreement.specs.CutStreams.{CutReplyTakesSome, CutSettleLosesNone, CutSettleTakesSome};
 ghost use Rattle.td_agreement.specs.CutStreams.{CutStreamIsFront};
+ghost use Rattle.td_agreement.specs.CutWriters.{FailedAnswerTakesSome, FailedAnswerWritesPrefix, FailedReplyTakesSome};
+ghost use Rattle.td_agreement.specs.CutWriters.{FailedSettleWritesPrefix};
+ghost use Rattle.td_agreement.specs.CutScopes.{CutAnswerInScope, CutFinishInScope, CutLeftOutStays, CutReplyInScope};
+ghost use Rattle.td_agreement.specs.CutScopes.{CutFinishInScopeLosesNone, CutSettleInScope, CutSettleInScopeLosesNone};
 
 /// Sites of one script that hold the same set of entries answer alike: a query, the same as it was just after an entry,
 /// what a relvar has, and up to which number each site's entries are held.
@@ -50,4 +54,26 @@ pub fn cut_streams_are_fronts()
     ensures settle_loses_none { CutSettleLosesNone }
     ensures answer { CutAnswerTakesSome }
     ensures reply { CutReplyTakesSome }
+{}
+
+/// A step whose write fails has written a prefix of what it was to write. The site that reads that, or a prefix of it,
+/// stays as it was or takes a prefix of the entries.
+pub fn failed_writes_leave_prefixes()
+    ensures answer_bytes { FailedAnswerWritesPrefix }
+    ensures settle_bytes { FailedSettleWritesPrefix }
+    ensures answer { FailedAnswerTakesSome }
+    ensures reply { FailedReplyTakesSome }
+{}
+
+/// In the scopes that a comparison found, a cut meeting leaves a site with a prefix of the entries that both exchange.
+/// So does one whose write fails. The laws of cut meetings then hold of these entries, and what either site leaves out
+/// stays as it was.
+pub fn cut_meetings_keep_scopes()
+    ensures finish { CutFinishInScope }
+    ensures finish_loses_none { CutFinishInScopeLosesNone }
+    ensures settle { CutSettleInScope }
+    ensures settle_loses_none { CutSettleInScopeLosesNone }
+    ensures left_out { CutLeftOutStays }
+    ensures answer { CutAnswerInScope }
+    ensures reply { CutReplyInScope }
 {}

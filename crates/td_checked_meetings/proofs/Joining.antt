@@ -73,7 +73,7 @@ all-filter q p (x ∷ xs) all = elim (p x) as (λ b. list_all q (cond b (x ∷ f
   | false ↦ all-filter q p xs (rest_holds (q x) (list_all q xs) all)
 ]
 
-set-filter : (p : Entry → Bool) (xs : List Entry) → is_set xs ≡ true → is_set (filter p xs) ≡ true
+pub set-filter : (p : Entry → Bool) (xs : List Entry) → is_set xs ≡ true → is_set (filter p xs) ≡ true
 set-filter p [] set = refl
 set-filter p (x ∷ xs) set = elim (p x) as (λ b. is_set (cond b (x ∷ filter p xs) (filter p xs)) ≡ true) [
   | true ↦ and_from (list_all (apart x) (filter p xs)) (is_set (filter p xs)) (all-filter (apart x) p xs (first_holds (list_all (apart x) xs) (is_set xs) set)) (set-filter p xs (rest_holds (list_all (apart x) xs) (is_set xs) set))
@@ -83,11 +83,11 @@ set-filter p (x ∷ xs) set = elim (p x) as (λ b. is_set (cond b (x ∷ filter 
 -- ---- entries without a gap follow
 
 -- above what the vector counts, a site's entries in the list have no gap
-abbrev IsFilled : VersionVector → ℕ → List Entry → Type 0
+abbrev pub IsFilled : VersionVector → ℕ → List Entry → Type 0
 IsFilled v site all = (y : Entry) → has all y ≡ true → y.site ≡ site → (k : ℕ) → number_of v site < k → k + 1 ≡ y.seq → has_number all site k ≡ true
 
 -- the numbers of the site so far
-abbrev AreSeen : ℕ → List Entry → List Entry → Type 0
+abbrev pub AreSeen : ℕ → List Entry → List Entry → Type 0
 AreSeen site done earlier = (k : ℕ) → has_number done site k ≡ true → k ≤ last_seq site earlier
 
 not_less : (b : Bool) (m n : ℕ) → n ≤ cond b (max m n) n
@@ -101,7 +101,7 @@ within false m n k is same = absurd (false≢true is)
 number_push : (xs : List Entry) (e : Entry) (site k : ℕ) → has_number (xs ++ e ∷ []) site k ≡ (has_number xs site k || is_number site k e)
 number_push xs e site k = list_any-append (is_number site k) xs (e ∷ []) ∙ ap (λ (b : Bool). has_number xs site k || b) (or_false (is_number site k e))
 
-seen_more : (site : ℕ) (done earlier : List Entry) (y : Entry) → AreSeen site done earlier → AreSeen site (done ++ y ∷ []) (earlier ++ y ∷ [])
+pub seen_more : (site : ℕ) (done earlier : List Entry) (y : Entry) → AreSeen site done earlier → AreSeen site (done ++ y ∷ []) (earlier ++ y ∷ [])
 seen_more site done earlier y seen k here =
     subst (λ (n : ℕ). k ≤ n) (sym (last_seq-append site earlier y)) (elim (or_cases (has_number done site k) (is_number site k y) (sym (number_push done y site k) ∙ here)) [
       | inl before ↦ let so = seen k before in let more = not_less (eqb y.site site) y.seq (last_seq site earlier) in omega (arith, so, more)
@@ -115,7 +115,7 @@ seen_other site done earlier y other seen k here = elim (or_cases (has_number do
 ]
 
 -- an entry of the site is at most the next one
-at_most_next : (v : VersionVector) (site : ℕ) (all done earlier : List Entry) (y : Entry) (ys : List Entry) → IsFilled v site all → all ≡ done ++ y ∷ ys → list_all (apart y) ys ≡ true → AreSeen site done earlier → y.site ≡ site
+pub at_most_next : (v : VersionVector) (site : ℕ) (all done earlier : List Entry) (y : Entry) (ys : List Entry) → IsFilled v site all → all ≡ done ++ y ∷ ys → list_all (apart y) ys ≡ true → AreSeen site done earlier → y.site ≡ site
     → y.seq ≤ max (number_of v site) (last_seq site earlier) + 1
 at_most_next v site all done earlier y ys filled split behind seen at = elim (cases_Bool (leb y.seq (number_of v site + 1))) [
   | inl low ↦ let le = leb-true y.seq (number_of v site + 1) low in omega (arith, le)
@@ -133,7 +133,7 @@ at_most_next v site all done earlier y ys filled split behind seen at = elim (ca
       ]
 ]
 
-must_follow : (v : VersionVector) (site : ℕ) (earlier : List Entry) (y : Entry) → y.site ≡ site → y.seq ≤ max (number_of v site) (last_seq site earlier) + 1 → follows v earlier y ≡ true
+pub must_follow : (v : VersionVector) (site : ℕ) (earlier : List Entry) (y : Entry) → y.site ≡ site → y.seq ≤ max (number_of v site) (last_seq site earlier) + 1 → follows v earlier y ≡ true
 must_follow v site earlier y at le =
     le-leb y.seq (max (number_of v y.site) (last_seq y.site earlier) + 1) (subst (λ (n : ℕ). y.seq ≤ max (number_of v n) (last_seq n earlier) + 1) (sym at) le)
 
@@ -178,7 +178,7 @@ counted_at : (v : VersionVector) (x : Entry) (site : ℕ) → x.site ≡ site �
 counted_at v x site at is = subst (λ (n : ℕ). x.seq ≤ number_of v n) at (ltb-false (number_of v x.site) x.seq is)
 
 -- the site is not among these
-abbrev IsNotIn : List ℕ → ℕ → Type 0
+abbrev pub IsNotIn : List ℕ → ℕ → Type 0
 IsNotIn sites site = list_any (λ n. eqb n site) sites ≡ false
 
 module _ (here there : List ℕ) (own other : VersionVector) (xs : List Entry) (site : ℕ) (in_here : IsNotIn here site) (in_there : IsNotIn there site) where
@@ -196,7 +196,7 @@ module _ (here there : List ℕ) (own other : VersionVector) (xs : List Entry) (
       let was = has-filter (is_in_scope there own) x (filter (lacks other) xs) ∙ and_from (is_in_scope there own x) (has (filter (lacks other) xs) x) kept after in
       has-filter (λ e. not (is_left_out here e)) x (sent there own other xs) ∙ and_from (not (is_left_out here x)) (has (sent there own other xs) x) (kept_at here x in_here at) was
 
-  filled : HasAll xs site (number_of own site) → IsFilled other site come
+  pub filled : HasAll xs site (number_of own site) → IsFilled other site come
   filled all y y_comes at k gt next =
       let m = of_sent here there own other xs y y_comes in
       let high : y.seq ≤ number_of own site = counted_at own y site at m.counted in

@@ -2,6 +2,7 @@
 mod Comparisons
 mod Joining
 mod Kept
+pub mod Prefixes
 mod Sequences
 mod Staying
 mod Stepping

@@ -10,6 +10,21 @@ use std::alloc::{AllocError, Global};
 use std::rc::Rc;
 
 impl TdType {
+    /// The type BOOLEAN.
+    pub const Boolean: TdType = TdType {
+        kind: TypeKind::Boolean,
+    };
+
+    /// The type INTEGER.
+    pub const Integer: TdType = TdType {
+        kind: TypeKind::Integer,
+    };
+
+    /// The type CHAR.
+    pub const Char: TdType = TdType {
+        kind: TypeKind::Char,
+    };
+
     /// A copy, which shares the headings within the type.
     pub fn copy(&self) -> Result<TdType, AllocError>
         ensures { IfOk result (λ t. t ≡ self.now) }
