@@ -39,7 +39,7 @@ use Rattle.td_semantics.proofs.Leading.{differences_lead}
 use Rattle.td_assign.specs.ForProofs.Given.{AreAssigned, AreChanges, IsAssigned, Stands, assigned_by}
 use Rattle.td_semantics.specs.declared.failure.Failure.{Failure}
 use Rattle.td_semantics.specs.declared.failure.Failure.TheVariants as failure
-use Rattle.td_assign.specs.ForProofs.Prepared.{AreAssignedTo, IsJudged, IsMade, IsPrepared, MayChange, Refuses, by_assignments, by_error, by_source, by_test, chosen_by, failing_after}
+use Rattle.td_assign.specs.ForProofs.Prepared.{AreAssignedTo, AreAssignedWhole, IsJudged, IsMade, IsMadeWhole, IsPrepared, MayChange, Refuses, by_assignments, by_error, by_source, by_test, chosen_by, failing_after}
 use Rattle.td_semantics.specs.Steps.{IsRead, IsUnreadText, Steps, TellsTest, done, given_by, raised, refused}
 use Rattle.td_assign.specs.declared.changes.Change.{Change}
 use Rattle.td_semantics.specs.declared.outcome.Outcome.{Outcome}
@@ -185,6 +185,16 @@ judged d xs cs given (Ok (Changes v ds)) h = (given ∙ ap (λ ys. Ok (given_to 
 judged d xs cs given (Ok (InPlace n x)) h = absurd h
 judged d xs cs given (Ok (Refused o)) h = by_test cs given h
 judged d xs cs given (Err e) h = tt
+
+pub judged_whole : {E : Type 0} (d : DatabaseData) (xs : List TypedAssignment) (cs : List Change) → assigned_by d xs ≡ Ok (given_to cs) → (m : Result Prepared E) → IfOk m (IsJudged d cs) → IfOk m (AreAssignedWhole d xs)
+judged_whole d xs cs given (Ok (Changes v ds)) h = ((given ∙ ap (λ ys. Ok (given_to ys)) (sym h.0), subst (λ ys. MayChange d ys ds.items) (sym h.0) h.1), tt)
+judged_whole d xs cs given (Ok (InPlace n x)) h = absurd h
+judged_whole d xs cs given (Ok (Refused o)) h = (by_test cs given h, tt)
+judged_whole d xs cs given (Err e) h = tt
+
+pub made_whole : {E : Type 0} (d : DatabaseData) (x : TypedStatement) (xs : List TypedAssignment) → chosen_by d x ≡ Ok xs → (r : Result Prepared E) → IfOk r (AreAssignedWhole d xs) → IfOk r (IsMadeWhole d x)
+made_whole d x xs h (Ok m) a = (by_assignments xs h a.0, a.1)
+made_whole d x xs h (Err e) a = tt
 
 -- what a statement gives is what the assignments give that it makes
 pub given_as : (d : DatabaseData) (x : TypedStatement) (xs : List TypedAssignment) → chosen_by d x ≡ Ok xs → given_by d x ≡ assigned_by d xs

@@ -4,3 +4,4 @@ pub mod Laws
 pub mod ForProofs
 pub mod Readings
 pub mod Inserting
+pub mod Trying

@@ -1,7 +1,7 @@
 //! Statements: what one makes of a database, or why it has no effect.
 //!
 //! Begin with `run`, which runs the text of a statement and tells its outcome and exact change; `read` and `run_read`
-//! are its two halves. `undo` and `redo` go by the change.
+//! are its two halves. `try_read` says what `run_read` would do. `undo` and `redo` go by the change.
 //!
 //! ```
 //! let mut meter = Meter::new(&rt);
@@ -34,6 +34,7 @@ pub mod reading;
 mod running;
 mod seen;
 mod sources;
+mod trying;
 mod undoing;
 
 pub use changes::Change;
@@ -42,4 +43,5 @@ pub use ran::Ran;
 pub use reading::{ReadText, read};
 pub use running::{run, run_read};
 pub use td_semantics::{Meter, Outcome};
+pub use trying::try_read;
 pub use undoing::{redo, undo, undo_part};

@@ -61,7 +61,7 @@ pub(crate) enum Prepared {
 }
 
 // With these changes made, the tests decide.
-fn judge_changes(
+pub(crate) fn judge_changes(
     alloc: Global,
     database: &Database,
     changes: Vec<Change>,
@@ -303,7 +303,7 @@ fn turn(
 
 // What a run of a statement is told as: its outcome, its changes and its relvars, and whether it is an insertion of which
 // the changes put in each tuple.
-fn ran(
+pub(crate) fn ran(
     outcome: Outcome,
     delta: Vec<(usize, Delta)>,
     names: Shared<NamedRelvars>,

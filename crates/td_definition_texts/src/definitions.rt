@@ -23,7 +23,7 @@ pub struct DefinitionText<'a> {
     pub text: &'a str,
     /// The names of its tokens, each as often as it is written.
     pub names: Vec<&'a str>,
-    /// The attributes of a base relvar in the order of its heading.
+    /// The attributes of a base relvar in the order of its heading; none if no heading is written, as before an INIT.
     pub attributes: Vec<&'a str>,
 }
 
@@ -100,8 +100,9 @@ fn definition_of<'a>(
     kind: DefinitionKind,
     range: TokenRange<'a, '_>,
 ) -> Result<DefinitionText<'a>, AllocError> {
-    let attributes = if kind == DefinitionKind::BaseRelvar {
-        attributes_from(alloc, range, range.find(2, Word::OpenBrace))?
+    let has_heading = range.word(3) == Some(Word::Relation);
+    let attributes = if kind == DefinitionKind::BaseRelvar && has_heading {
+        attributes_from(alloc, range, 4)?
     } else {
         Vec::new(alloc)
     };

@@ -40,7 +40,7 @@ impl<'a> TokenRange<'a, '_> {
         }
     }
 
-    /// The text of the token at an index, which is empty behind the last one.
+    /// The text of the token at an index, which is empty after the last one.
     pub(crate) fn text(self, index: usize) -> &'a str {
         match self.tokens.get(index) {
             Some(token) => token.text,
@@ -59,7 +59,7 @@ impl<'a> TokenRange<'a, '_> {
         self.script.get(first.start..last.end).unwrap_or("")
     }
 
-    /// The index of the first of these words from an index on; that behind the last token if there is none.
+    /// The index of the first of these words from an index on; that after the last token if there is none.
     pub(crate) fn find(self, from: usize, wanted: Word) -> usize {
         for index in from..self.tokens.len() {
             if self.word(index) == Some(wanted) {

@@ -16,6 +16,7 @@ use td_replica::{
 };
 use td_semantics::{Answer, Meter, Outcome};
 use td_stamps::{Entry, Held, Stamp};
+use td_trials::Trials;
 use td_values::Name;
 
 /// A site that keeps what was hashed of the entries that it holds. It is seen as the site within.
@@ -120,6 +121,12 @@ impl<R: Catalogued> Catalogued for DigestedSite<R> {
 impl<R: Changes> Changes for DigestedSite<R> {
     fn changed_by(&self, at: Stamp) -> Result<&[(usize, Delta)], ChangedError> {
         self.site.changed_by(at)
+    }
+}
+
+impl<R: Trials> Trials for DigestedSite<R> {
+    fn try_issue(&self, alloc: Global, text: &str) -> Result<Outcome, IssueError> {
+        self.site.try_issue(alloc, text)
     }
 }
 

@@ -11,7 +11,7 @@ use Rattle.json.specs.Strict.{HasUniqueKeys}
 use Rattle.td_http_api.specs.declared.calls.ApiCall.{ApiCall}
 use Rattle.td_http_api.specs.declared.calls.LogFilter.{LogFilter}
 use Rattle.td_http_api.specs.declared.calls.Selection.{Selection}
-use Rattle.td_http_api.specs.declared.calls.ApiCall.TheVariants.{Site, Relvars, Table, Refused, Log, Script, Schema, Digest, Query, Statement, Acknowledge, AcknowledgeAlarms, Meet, Stop}
+use Rattle.td_http_api.specs.declared.calls.ApiCall.TheVariants.{Site, Relvars, Table, Refused, Attention, Log, Script, Schema, Digest, Query, Statement, Trial, Acknowledge, AcknowledgeAlarms, Meet, Stop}
 use Rattle.td_http_api.specs.declared.members.Member.{Member}
 use Rattle.td_http_api.specs.declared.members.Member.TheVariants as member
 use Rattle.td_http_api.specs.declared.resources.Resource.{Resource}
@@ -71,6 +71,7 @@ GivesInQuery resource name fields Site = resource ≡ the.Site
 GivesInQuery resource name fields (Relvars counts) = (resource ≡ the.Relvars) × HasFlag member.Counts fields counts
 GivesInQuery resource name fields (Table relvar) = (resource ≡ the.Table) × (name ≡ relvar.now)
 GivesInQuery resource name fields Refused = resource ≡ the.Refused
+GivesInQuery resource name fields Attention = resource ≡ the.Attention
 GivesInQuery resource name fields (Log filter) = (resource ≡ the.Log) × HasFilter fields filter
 GivesInQuery resource name fields Script = resource ≡ the.Script
 GivesInQuery resource name fields Schema = resource ≡ the.Schema
@@ -92,6 +93,7 @@ GivesInBody resource body (Query text at selection) =
     × HasSelection body selection
 GivesInBody resource body (Statement text key) =
     (resource ≡ the.Statement) × (member_text member.Text body ≡ Some text.now) × (member_text member.Key body ≡ option_copied key)
+GivesInBody resource body (Trial text) = (resource ≡ the.Trial) × (member_text member.Text body ≡ Some text.now)
 GivesInBody resource body (Acknowledge stamp) = (resource ≡ the.Acknowledge) × (member_text member.Stamp body ≡ Some stamp.now)
 GivesInBody resource body (AcknowledgeAlarms site) = (resource ≡ the.AcknowledgeAlarms) × HasCount member.Site body (Some site)
 GivesInBody resource body (Meet address) = (resource ≡ the.Meet) × (member_text member.Address body ≡ Some address.now)

@@ -8,7 +8,7 @@ use Rattle.td_http_api.specs.declared.resources.Methods.TheVariants.{Get, GetAnd
 use Rattle.td_http_api.specs.declared.resources.Path.{Path}
 use Rattle.td_http_api.specs.declared.resources.Path.TheVariants.{Whole, Around}
 use Rattle.td_http_api.specs.declared.resources.Resource.{Resource}
-use Rattle.td_http_api.specs.declared.resources.Resource.TheVariants.{Page, Health, Site, Relvars, Table, Refused, Log, Script, Schema, Digest, Query, Statement, Acknowledge, AcknowledgeAlarms, Meet, Stop}
+use Rattle.td_http_api.specs.declared.resources.Resource.TheVariants.{Page, Health, Site, Relvars, Table, Refused, Attention, Log, Script, Schema, Digest, Query, Statement, Trial, Acknowledge, AcknowledgeAlarms, Meet, Stop}
 use Rattle.td_http_api.specs.declared.resources.Right.{Right}
 use Rattle.td_http_api.specs.declared.resources.Right.TheVariants.{Everyone, Bearer}
 
@@ -46,12 +46,14 @@ row_of Site = row_by Get (codes "/api/site") []
 row_of Relvars = row_by Get (codes "/api/relvars") (Counts ∷ [])
 row_of Table = record { methods = Get; path = λ name. codes "/api/relvars/" ++ (name ++ codes ".csv"); right = Bearer; members = [] }
 row_of Refused = row_by Get (codes "/api/refused") []
+row_of Attention = row_by Get (codes "/api/attention") []
 row_of Log = row_by Get (codes "/api/log") (After ∷ Before ∷ member.Relvar ∷ Key ∷ Author ∷ Contains ∷ Last ∷ [])
 row_of Script = row_by Get (codes "/api/script") []
 row_of Schema = row_by Get (codes "/api/schema") []
 row_of Digest = row_by Get (codes "/api/digest") []
 row_of Query = row_by Post (codes "/api/query") (Text ∷ At ∷ Order ∷ Contains ∷ First ∷ Count ∷ [])
 row_of Statement = row_by Post (codes "/api/statement") (Text ∷ Key ∷ [])
+row_of Trial = row_by Post (codes "/api/try") (Text ∷ [])
 row_of Acknowledge = row_by Post (codes "/api/acknowledge") (Stamp ∷ [])
 row_of AcknowledgeAlarms = row_by Post (codes "/api/alarms/acknowledge") (member.Site ∷ [])
 row_of Meet = row_by Post (codes "/api/meet") (Address ∷ [])

@@ -134,6 +134,7 @@ pub(crate) fn call_of_query<'a>(
             relvar: target.name,
         }),
         Resource::Refused => Ok(ApiCall::Refused),
+        Resource::Attention => Ok(ApiCall::Attention),
         Resource::Log => Ok(ApiCall::Log(filter_of(fields)?)),
         Resource::Script => Ok(ApiCall::Script),
         Resource::Schema => Ok(ApiCall::Schema),
@@ -175,6 +176,9 @@ pub(crate) fn call_of_body<'a>(
         Resource::Statement => Ok(ApiCall::Statement {
             text: required_text(body, Member::Text)?,
             key: optional_text(body, Member::Key)?,
+        }),
+        Resource::Trial => Ok(ApiCall::Trial {
+            text: required_text(body, Member::Text)?,
         }),
         Resource::Acknowledge => Ok(ApiCall::Acknowledge {
             stamp: required_text(body, Member::Stamp)?,

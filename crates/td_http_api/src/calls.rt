@@ -56,6 +56,8 @@ pub enum ApiCall<'a> {
     },
     /// The statements that are refused, each with its reason.
     Refused,
+    /// What a person is to look at: statements of the site that came to something else, alarms, and its state.
+    Attention,
     /// Statements, each with what became of it.
     Log(LogFilter<'a>),
     /// The script.
@@ -74,6 +76,10 @@ pub enum ApiCall<'a> {
     Statement {
         text: &'a str,
         key: Option<&'a str>,
+    },
+    /// What a statement would come to. Nothing is added.
+    Trial {
+        text: &'a str,
     },
     /// The statement of this stamp was done here and is refused, and a person has seen that.
     Acknowledge {

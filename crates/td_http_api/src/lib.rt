@@ -26,14 +26,21 @@
 //! that the page reads:
 //!
 //! - `Site`: `site`, `held` and `limit`; `open`, false where the journal has failed; `lacking`, true where the site
-//!   issues nothing until it has met another one; `vector`; `peers`, the addresses that may be called; `alarms`, each
+//!   issues nothing until it has met another one; `vector`; `peers`, each with `site` (null until it was met),
+//!   `address`, `called` (true where this site calls it), `met` and `tried` (seconds ago, null for never), `failed` (how
+//!   often since it was met) and `vector` (what it has for certain); `alarms`, each
 //!   with `site` and `address`: statements of that site differ here and at the site that was met there, and nobody has
 //!   acknowledged that; `meetings`, the latest first, each with `peer`, `called` (true where this site called), `met`,
 //!   `words` (what it brought, or why it failed) and `seconds` (how long ago).
 //! - `Relvars`: `relvars`, each with `name`, `kind` (`base` or `virtual`), `heading` (of each attribute `name` and
 //!   `type`) and, where they are counted, `tuples`.
 //! - `Refused`: `refused` in the order of stamps, each with `stamp`, `number`, `author` (null if its text names none),
-//!   `reason`, `text` and `reversed`, true where it was done here and nobody has acknowledged that it is refused.
+//!   `came` (when it came to this site, in seconds since 1970, null if that is not known), `reason`, `breaks` (the
+//!   `kind`, `key` or `constraint`, and the `name`, if it breaks one), `text` and `reversed`, true where it was done
+//!   here and nobody has acknowledged that it is refused.
+//! - `Attention`: `attention`, statements of this site as in `Log`, with `kind`: `refused`, where it was done before, or
+//!   `other`, where it changes something else now, with `was`, what it changed before in words; `alarms` and `lacking`
+//!   as in `Site`; `full`, true where nine tenths of the limit are held.
 //! - `Log`: `log` in the order of stamps, each as in `Refused`, or with `done` and `changed` in place of `reason` and
 //!   `reversed`: of each relvar that it changed `relvar`, `out` and `in` (the first tuples that left it and that came
 //!   into it) and `more` (how many others).
@@ -42,8 +49,9 @@
 //!   is held, and the SHA-256 of all up to that, as `.digest` of the shell has it.
 //! - `Query`: of a relation `heading`, `rows` (lists of values in its order) and `total`, how many tuples there are in
 //!   all; of another value `value`; or `raised`.
-//! - `Statement`: `stamp` and either `done` or `refused`, the reason; `warning` where statements of this very site
-//!   differ elsewhere. A text that is not added is a fault with 422.
+//! - `Statement`: `stamp` and either `done` and `changed` or `refused`, the reason, and `breaks`; `warning` where
+//!   statements of this very site differ elsewhere. A text that is not added is a fault with 422.
+//! - `Trial`: `done`, or `refused` and `breaks`, as `Statement` would have them.
 //! - `Acknowledge`: `acknowledged`. `AcknowledgeAlarms`: `acknowledged`, how many; 422 where the site has no alarm.
 //! - `Meet`: `calling`, with 202; an address that may not be called is a fault with 403. `Stop`: `stopping`, with 202.
 //! - A fault, with a status from 400 on: `fault`, its words, in lines where a caret is below a place.

@@ -18,12 +18,14 @@ pub(crate) enum Resource {
     Relvars,
     Table,
     Refused,
+    Attention,
     Log,
     Script,
     Schema,
     Digest,
     Query,
     Statement,
+    Trial,
     Acknowledge,
     AcknowledgeAlarms,
     Meet,
@@ -31,19 +33,21 @@ pub(crate) enum Resource {
 }
 
 /// All of them, in the order in which a path is compared with theirs.
-const RESOURCES: [Resource; 16] = [
+const RESOURCES: [Resource; 18] = [
     Resource::Page,
     Resource::Health,
     Resource::Site,
     Resource::Relvars,
     Resource::Table,
     Resource::Refused,
+    Resource::Attention,
     Resource::Log,
     Resource::Script,
     Resource::Schema,
     Resource::Digest,
     Resource::Query,
     Resource::Statement,
+    Resource::Trial,
     Resource::Acknowledge,
     Resource::AcknowledgeAlarms,
     Resource::Meet,
@@ -181,6 +185,7 @@ impl Resource {
                 members: &[],
             },
             Resource::Refused => call_by(Methods::Get, "/api/refused", &[]),
+            Resource::Attention => call_by(Methods::Get, "/api/attention", &[]),
             Resource::Log => call_by(
                 Methods::Get,
                 "/api/log",
@@ -214,6 +219,7 @@ impl Resource {
                 "/api/statement",
                 &[Member::Text, Member::Key],
             ),
+            Resource::Trial => call_by(Methods::Post, "/api/try", &[Member::Text]),
             Resource::Acknowledge => call_by(Methods::Post, "/api/acknowledge", &[Member::Stamp]),
             Resource::AcknowledgeAlarms => {
                 call_by(Methods::Post, "/api/alarms/acknowledge", &[Member::Site])

@@ -26,6 +26,7 @@ use td_replica::{
 };
 use td_semantics::{Answer, Meter, Outcome};
 use td_stamps::{Entry, Held, Stamp};
+use td_trials::Trials;
 use td_values::Name;
 use thiserror::Error;
 
@@ -314,5 +315,15 @@ impl<R: Changes, W: Sink> Changes for Keeper<R, W> {
             return Err(ChangedError::Broken);
         }
         self.replica.changed_by(at)
+    }
+}
+
+impl<R: Trials, W: Sink> Trials for Keeper<R, W> {
+    fn try_issue(&self, alloc: Global, text: &str) -> Result<Outcome, IssueError> {
+        if self.is_open {
+            self.replica.try_issue(alloc, text)
+        } else {
+            Err(IssueError::Broken)
+        }
     }
 }

@@ -8,13 +8,14 @@ ghost use Rattle.td_replay.specs.Noted.{AgreeAt, AreTargetsOf, IsFootprintOf, Is
 ghost use Rattle.td_relvars.specs.Parts.{AreTheirs, part_of};
 ghost use Rattle.td_semantics.specs.Databases.{IsDatabase};
 ghost use Rattle.td_replay.specs.ForProofs.Going.{go};
+ghost use Rattle.td_replay.specs.ForProofs.Trying.{WouldNote};
 ghost use Rattle.td_replay.specs.ForProofs.Exchanging.{exchanges};
 
 use crate::accessing::{add_reading, add_record, conflicts, reading_conflicts};
 use std::alloc::{AllocError, Global};
 use std::marker::Model;
 use td_accesses::{Accesses, Dependencies};
-use td_assign::{KnownNames, Ran, ReadText, read, redo, run, run_read, undo};
+use td_assign::{KnownNames, Ran, ReadText, read, redo, run, run_read, try_read, undo};
 use td_relvars::{Database, Part};
 use td_rollback::Machine;
 use td_semantics::Meter;
@@ -72,6 +73,16 @@ impl Engine {
         ensures same { result.now ≡ self.now }
     {
         &self.database
+    }
+
+    /// What running the entry would give.
+    pub fn try_run(&self, alloc: Global, entry: &Entry) -> Result<Ran, AllocError>
+        requires { IsLegalDatabase self.now }
+        ensures { IfOk result (WouldNote self.now entry.now) }
+    {
+        let text = entry.text.as_str();
+        let reading = read(alloc, self.database.catalogue(), text, entry.dialect)?;
+        try_read(alloc, &self.database, &reading)
     }
 
     // Whether the entry conflicts with one of those whose accesses these are, by what its text inserts: then its own

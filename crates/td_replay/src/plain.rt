@@ -22,6 +22,7 @@ use td_replica::{
 };
 use td_semantics::{Answer, Meter, Outcome};
 use td_stamps::{Entry, Held, Stamp};
+use td_trials::Trials;
 use td_values::Name;
 
 /// A site in memory, the plain reading of what a site is: to issue a statement runs that one alone, and to take entries
@@ -120,6 +121,12 @@ impl Catalogued for PlainSite {
 impl Changes for PlainSite {
     fn changed_by(&self, at: Stamp) -> Result<&[(usize, Delta)], ChangedError> {
         self.state.changed_by(at)
+    }
+}
+
+impl Trials for PlainSite {
+    fn try_issue(&self, alloc: Global, text: &str) -> Result<Outcome, IssueError> {
+        self.state.try_issue(alloc, text)
     }
 }
 

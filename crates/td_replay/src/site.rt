@@ -24,6 +24,7 @@ use td_replica::{
 };
 use td_semantics::{Answer, Meter, Outcome};
 use td_stamps::{Entry, Held, Stamp};
+use td_trials::Trials;
 use td_values::Name;
 
 /// A site in memory. It keeps the database, and of the run of each entry its outcome, its changes and what it hangs on.
@@ -128,6 +129,12 @@ impl Catalogued for Site {
 impl Changes for Site {
     fn changed_by(&self, at: Stamp) -> Result<&[(usize, Delta)], ChangedError> {
         self.state.changed_by(at)
+    }
+}
+
+impl Trials for Site {
+    fn try_issue(&self, alloc: Global, text: &str) -> Result<Outcome, IssueError> {
+        self.state.try_issue(alloc, text)
     }
 }
 

@@ -17,6 +17,7 @@ ghost use Rattle.td_replay.specs.Counted.{RunsIn};
 ghost use Rattle.td_replay.specs.declared.told.Way.TheVariants as by;
 ghost use Rattle.td_replay.specs.ForProofs.Past.{EndsWith, as_past, entry_at};
 ghost use Rattle.td_replay.specs.ForProofs.Told.{Numbers};
+ghost use Rattle.td_trials.specs.Trials.{Tries};
 
 use crate::asked;
 use crate::asked::{ask_anew, ask_back, query_of};
@@ -207,6 +208,24 @@ impl State {
         }
     }
 
+    // The next entry, with this text, or the first cause for which there is none.
+    fn checked_entry(&self, alloc: Global, text: &str) -> Result<Entry, IssueError>
+        ensures next { IfOk result (λ e. entry_of (always_open self.now) text.now ≡ Ok e) }
+        ensures short { IsOk result → length text.now ≤ 8192 }
+        ensures refused { MatchResult result (λ e. Unit {0}) (λ error. Issues (always_open self.now) text.now (Err error) (always_open self.now)) }
+        ensures journal { result ≡ Err issue_error.JournalWrite → ⊥ }
+    {
+        // It shows that the site is open, and does nothing when it runs.
+        let _site = &self.site;
+        if text.len() > MOST_BYTES {
+            return Err(IssueError::Syntax);
+        }
+        match self.next_entry(alloc, text) {
+            Ok(entry) => Ok(entry),
+            Err(error) => Err(self.first_refusal(alloc, text, error)),
+        }
+    }
+
     /// Issues a statement: adds the site's next entry with this text, and runs it.
     pub fn issue(
         &mut self,
@@ -218,16 +237,34 @@ impl State {
         ensures journal { result ≡ Err issue_error.JournalWrite → ⊥ }
         ensures meter { meter.new.count ≤ meter.old.count + 1 }
     {
-        // It shows that the site is open, and does nothing when it runs.
-        let _site = &self.site;
-        if text.len() > MOST_BYTES {
-            return Err(IssueError::Syntax);
-        }
-        let entry = match self.next_entry(alloc, text) {
+        let entry = match self.checked_entry(alloc, text) {
             Ok(entry) => entry,
-            Err(error) => return Err(self.first_refusal(alloc, text, error)),
+            Err(error) => return Err(error),
         };
         self.issue_entry(alloc, entry, text, meter)
+    }
+
+    // What the next entry, with this text, would come to.
+    fn try_entry(&self, alloc: Global, entry: &Entry, text: &str) -> Result<Outcome, IssueError>
+        requires next { entry_of (always_open self.now) text.now ≡ Ok entry.now }
+        requires short { length text.now ≤ 8192 }
+        ensures { Tries (always_open self.now) text.now result }
+    {
+        match self.told.try_next(alloc, entry) {
+            Ok(Some(outcome)) => Ok(outcome),
+            Ok(None) => Err(refusal(alloc, self.told.engine.database().catalogue(), text)),
+            Err(_) => Err(IssueError::OutOfMemory),
+        }
+    }
+
+    /// The outcome that issuing a text would have, or why it would be refused. Nothing changes.
+    pub fn try_issue(&self, alloc: Global, text: &str) -> Result<Outcome, IssueError>
+        ensures { Tries (always_open self.now) text.now result }
+    {
+        match self.checked_entry(alloc, text) {
+            Ok(entry) => self.try_entry(alloc, &entry, text),
+            Err(error) => Err(error),
+        }
     }
 
     /// All that may fail comes before what is held changes.

@@ -11,6 +11,7 @@ ghost use Rattle.td_replay.specs.Counted.{RunsOver};
 ghost use Rattle.td_replay.specs.Noted.{IsLegalDatabase, opened_by};
 ghost use Rattle.td_replay.specs.declared.told.Way.TheVariants as by;
 ghost use Rattle.td_replay.specs.ForProofs.Told.{HoldsNext, IsAccepted, IsLogged, RunsSome, TellsNext, outcomes_of};
+ghost use Rattle.td_replay.specs.ForProofs.Trying.{WouldTell};
 
 use crate::engine::Engine;
 use std::alloc::{AllocError, Global};
@@ -106,6 +107,18 @@ impl Told {
         let told = copy_of(&ran.outcome)?;
         self.log.push((entry.stamp(), ran)).unwrap();
         Ok(Some(told))
+    }
+
+    /// The outcome that one entry more would have; none if it is unread.
+    pub fn try_next(&self, alloc: Global, entry: &Entry) -> Result<Option<Outcome>, AllocError>
+        requires { IsLegalDatabase self.now.engine }
+        ensures { WouldTell self.now.engine self.now.log.items entry.now result }
+    {
+        let tried = self.engine.try_run(alloc, entry)?;
+        if !is_unread(&tried.outcome) {
+            return Ok(Some(tried.outcome));
+        }
+        Ok(None)
     }
 
     // Tells more entries than were told, of which it runs those that are fresh or touched. Want of memory leaves all as

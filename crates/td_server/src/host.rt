@@ -4,6 +4,8 @@ use crate::token::open_token;
 use crate::words::ServerOptions;
 use std::alloc::AllocError;
 use td_alarms::Alarms;
+use td_arrivals::Arrivals;
+use td_contacts::Contacts;
 use td_digested_sites::DigestedSite;
 use td_io::Device;
 use td_journal::Keeper;
@@ -34,6 +36,15 @@ pub(crate) struct Host<'a> {
     pub(crate) notes: &'a Notes,
     /// The name of the journal.
     pub(crate) journal: &'a str,
+}
+
+/// The lists beside a journal.
+#[derive(Drop)]
+pub(crate) struct Lists {
+    pub(crate) reversals: Reversals,
+    pub(crate) alarms: Alarms,
+    pub(crate) arrivals: Arrivals,
+    pub(crate) contacts: Contacts,
 }
 
 /// Reports that memory ran out, and returns the exit status for that.
@@ -90,8 +101,18 @@ impl Host<'_> {
         }
     }
 
-    /// The statements that were done and are refused now, or the exit status after a report why their list is not read.
-    pub(crate) fn open_reversals(self) -> Result<Reversals, ExitStatus> {
+    /// The lists beside the journal, or the exit status after a report why one of them is not read.
+    pub(crate) fn open_lists(self) -> Result<Lists, ExitStatus> {
+        Ok(Lists {
+            reversals: self.open_reversals()?,
+            alarms: self.open_alarms()?,
+            arrivals: self.open_arrivals()?,
+            contacts: self.open_contacts()?,
+        })
+    }
+
+    // The statements that came to something else, or the exit status after a report why their list is not read.
+    fn open_reversals(self) -> Result<Reversals, ExitStatus> {
         let alloc = self.rt.alloc();
         let journal = self.journal;
         let Ok(name) = format!(in alloc; "{journal}.reversed") else {
@@ -103,8 +124,8 @@ impl Host<'_> {
         }
     }
 
-    /// The alarms that nobody has acknowledged, or the exit status after a report why their list is not read.
-    pub(crate) fn open_alarms(self) -> Result<Alarms, ExitStatus> {
+    // The alarms that nobody has acknowledged, or the exit status after a report why their list is not read.
+    fn open_alarms(self) -> Result<Alarms, ExitStatus> {
         let alloc = self.rt.alloc();
         let journal = self.journal;
         let Ok(name) = format!(in alloc; "{journal}.differing") else {
@@ -113,6 +134,32 @@ impl Host<'_> {
         match Alarms::open(alloc, self.rt, Some(name)) {
             Ok(alarms) => Ok(alarms),
             Err(error) => Err(self.report_list(".differing", error)),
+        }
+    }
+
+    // When statements came, or the exit status after a report why their list is not read.
+    fn open_arrivals(self) -> Result<Arrivals, ExitStatus> {
+        let alloc = self.rt.alloc();
+        let journal = self.journal;
+        let Ok(name) = format!(in alloc; "{journal}.came") else {
+            return Err(report_memory(self.rt));
+        };
+        match Arrivals::open(alloc, self.rt, Some(name)) {
+            Ok(arrivals) => Ok(arrivals),
+            Err(error) => Err(self.report_list(".came", error)),
+        }
+    }
+
+    // The sites that were met, or the exit status after a report why their list is not read.
+    fn open_contacts(self) -> Result<Contacts, ExitStatus> {
+        let alloc = self.rt.alloc();
+        let journal = self.journal;
+        let Ok(name) = format!(in alloc; "{journal}.peers") else {
+            return Err(report_memory(self.rt));
+        };
+        match Contacts::open(alloc, self.rt, Some(name), &self.options.calls) {
+            Ok(contacts) => Ok(contacts),
+            Err(error) => Err(self.report_list(".peers", error)),
         }
     }
 

@@ -10,8 +10,9 @@ use td_digested_sites::{Digested, DigestedSite};
 use td_event_loop::{EventLoop, LoopOptions};
 use td_http_api::{Api, Guard};
 use td_replica::{Catalogued, Opens, Replica};
-use td_site_desk::{SiteDesk, SiteServer};
+use td_site_desk::{SiteDesk, SiteServer, serve as serve_site};
 use td_site_opening::ExitStatus;
+use td_trials::Trials;
 
 // Adds the hosts by which this program is asked.
 fn add_hosts(
@@ -73,17 +74,18 @@ fn listen(rt: &HostRuntime, options: &ServerOptions<'_>) -> Option<EventLoop> {
 
 // Answers requests and meets other sites until the desk leaves, which is returned with the guard, or until the program
 // is to end: then its exit status is returned.
-fn run<'a, R: Changes + Catalogued + Digested + Drop>(
+fn run<'a, R: Changes + Catalogued + Trials + Digested + Drop>(
     rt: &HostRuntime,
     event_loop: &mut EventLoop,
     desk: SiteDesk<'a, R, HostRuntime>,
     guard: Guard,
 ) -> Result<(SiteDesk<'a, R, HostRuntime>, Guard), ExitStatus> {
     let mut server = SiteServer::new(Api::new(rt.alloc(), desk, guard));
-    match event_loop.run(rt, &mut server) {
+    match serve_site(event_loop, rt, &mut server) {
         Ok(()) => {
             let (desk, guard) = server.into_api().into_parts();
             if desk.is_stopping() {
+                desk.save_contacts();
                 return Err(ExitStatus::Success);
             }
             Ok((desk, guard))
@@ -116,7 +118,7 @@ fn suspended<'a, R: Opens + Drop>(
 }
 
 // A desk over a site that came back from its journal again.
-fn resumed<'a, R: Opens + Changes + Catalogued + Drop>(
+fn resumed<'a, R: Opens + Changes + Catalogued + Trials + Drop>(
     host: Host<'a>,
     desk: SiteDesk<'a, DigestedSite<R>, HostRuntime>,
     site: KeptSite<'a, R>,
@@ -131,7 +133,7 @@ fn resumed<'a, R: Opens + Changes + Catalogued + Drop>(
 }
 
 // Answers queries until the journal that failed can be written again, or has failed for too long.
-fn await_journal<'a, R: Opens + Changes + Catalogued + Drop>(
+fn await_journal<'a, R: Opens + Changes + Catalogued + Trials + Drop>(
     host: Host<'a>,
     event_loop: &mut EventLoop,
     desk: SiteDesk<'a, KeptSite<'a, R>, HostRuntime>,
@@ -165,7 +167,7 @@ fn digested<'a, R: Replica + Drop>(
 }
 
 // Serves a site that is kept in its journal, and goes on without one while that fails.
-fn run_kept<'a, R: Opens + Changes + Catalogued + Drop>(
+fn run_kept<'a, R: Opens + Changes + Catalogued + Trials + Drop>(
     host: Host<'a>,
     event_loop: &mut EventLoop,
     desk: SiteDesk<'a, JournaledSite<'a, R>, HostRuntime>,
@@ -180,7 +182,7 @@ fn run_kept<'a, R: Opens + Changes + Catalogued + Drop>(
 }
 
 // Serves the site by an event loop that listens.
-fn serve_by<'a, R: Opens + Changes + Catalogued + Drop>(
+fn serve_by<'a, R: Opens + Changes + Catalogued + Trials + Drop>(
     host: Host<'a>,
     event_loop: &mut EventLoop,
     token: &str,
@@ -202,7 +204,7 @@ fn serve_by<'a, R: Opens + Changes + Catalogued + Drop>(
 }
 
 /// Serves the site until the program is to end.
-pub(crate) fn serve<'a, R: Opens + Changes + Catalogued + Drop>(
+pub(crate) fn serve<'a, R: Opens + Changes + Catalogued + Trials + Drop>(
     host: Host<'a>,
     token: &str,
     desk: SiteDesk<'a, JournaledSite<'a, R>, HostRuntime>,

@@ -2,12 +2,11 @@
 
 ghost use Rattle.td_journal.specs.Reopening.{IsNew};
 
-use crate::host::{Host, JournaledSite, report_memory};
+use crate::host::{Host, JournaledSite, Lists, report_memory};
 use crate::serving::serve;
 use crate::words::ServerOptions;
 use std::alloc::AllocError;
 use std::random::RandomSource;
-use td_alarms::Alarms;
 use td_changes::Changes;
 use td_io::Device;
 use td_journal::{StoreError, keep_journal};
@@ -15,11 +14,12 @@ use td_journal_files::{FileJournals, Notes};
 use td_replay::Site;
 use td_replica::{Catalogued, Opens};
 use td_semantics::Meter;
-use td_site_desk::{DeskParts, Peers, Reversals, SiteDesk};
+use td_site_desk::{DeskParts, Peers, SiteDesk};
 use td_site_opening::{
     ExitStatus, ScriptFile, SiteJournal, StartFault, journal_name, open_new, prepare_journal,
     read_script, report, report_unkept,
 };
+use td_trials::Trials;
 
 // Reports why there is no site, and returns the exit status.
 fn report_fault(rt: &HostRuntime, fault: StartFault<'_>) -> ExitStatus {
@@ -36,16 +36,15 @@ fn new_number<H: RandomSource>(host: &H) -> u64 {
 
 impl<'a> Host<'a> {
     // The desk of a site that came back.
-    fn desk_of<R: Changes + Catalogued + Drop>(
+    fn desk_of<R: Changes + Catalogued + Trials + Drop>(
         self,
         site: R,
         meter: Meter,
-        reversals: Reversals,
-        alarms: Alarms,
+        lists: Lists,
     ) -> Result<SiteDesk<'a, R, HostRuntime>, AllocError> {
         let alloc = self.rt.alloc();
         let is_lacking = self.report_journal(&site)?;
-        self.report_alarms(&alarms)?;
+        self.report_alarms(&lists.alarms)?;
         let peers = Peers {
             addresses: self.options.calls.clone()?,
         };
@@ -55,8 +54,10 @@ impl<'a> Host<'a> {
             site,
             meter,
             peers,
-            reversals,
-            alarms,
+            reversals: lists.reversals,
+            alarms: lists.alarms,
+            arrivals: lists.arrivals,
+            contacts: lists.contacts,
             is_lacking,
             start: new_number(self.rt),
             mark: self.find_mark()?,
@@ -65,28 +66,24 @@ impl<'a> Host<'a> {
     }
 
     // Serves a site that came back from its journal, to clients that show the token.
-    fn serve_by_token<R: Opens + Changes + Catalogued + Drop>(
+    fn serve_by_token<R: Opens + Changes + Catalogued + Trials + Drop>(
         self,
         token: &str,
         site: JournaledSite<'a, R>,
         meter: Meter,
     ) -> ExitStatus {
-        let reversals = match self.open_reversals() {
-            Ok(reversals) => reversals,
+        let lists = match self.open_lists() {
+            Ok(lists) => lists,
             Err(status) => return status,
         };
-        let alarms = match self.open_alarms() {
-            Ok(alarms) => alarms,
-            Err(status) => return status,
-        };
-        match self.desk_of(site, meter, reversals, alarms) {
+        match self.desk_of(site, meter, lists) {
             Ok(desk) => serve(self, token, desk),
             Err(_) => report_memory(self.rt),
         }
     }
 
     // Serves a site that came back from its journal.
-    fn serve_kept<R: Opens + Changes + Catalogued + Drop>(
+    fn serve_kept<R: Opens + Changes + Catalogued + Trials + Drop>(
         self,
         site: JournaledSite<'a, R>,
         meter: Meter,
@@ -116,7 +113,7 @@ impl<'a> Host<'a> {
     }
 
     // Has a new site of the script come back from its journal, and serves it.
-    fn keep<R: Opens + Changes + Catalogued + Drop>(self, site: R) -> ExitStatus
+    fn keep<R: Opens + Changes + Catalogued + Trials + Drop>(self, site: R) -> ExitStatus
         requires { IsNew (R.seen site) }
     {
         let mut meter = Meter::new(self.rt);
@@ -130,7 +127,7 @@ impl<'a> Host<'a> {
 }
 
 // Has a new site of this script come back from the journal of this name, and serves it.
-fn start_named<R: Opens + Changes + Catalogued + Drop>(
+fn start_named<R: Opens + Changes + Catalogued + Trials + Drop>(
     rt: &HostRuntime,
     options: &ServerOptions<'_>,
     name: &str,
@@ -157,7 +154,7 @@ fn start_named<R: Opens + Changes + Catalogued + Drop>(
 }
 
 // Has a new site of this script come back from its journal, and serves it.
-fn start_at<R: Opens + Changes + Catalogued + Drop>(
+fn start_at<R: Opens + Changes + Catalogued + Trials + Drop>(
     rt: &HostRuntime,
     options: &ServerOptions<'_>,
     script: &str,
@@ -173,7 +170,7 @@ fn start_at<R: Opens + Changes + Catalogued + Drop>(
 }
 
 // Opens the site of this script, and serves it.
-fn start_site<R: Opens + Changes + Catalogued + Drop>(
+fn start_site<R: Opens + Changes + Catalogued + Trials + Drop>(
     rt: &HostRuntime,
     options: &ServerOptions<'_>,
     script: &str,

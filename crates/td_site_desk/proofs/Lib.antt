@@ -1,2 +1,3 @@
 mod Keyed
+pub mod Runs
 mod Told

@@ -2,4 +2,5 @@
 pub mod ForProofs
 pub mod Laws
 pub mod Meetings
+pub mod Runs
 pub mod Sites

@@ -14,7 +14,9 @@ use std::alloc::{AllocError, Global};
 use std::net::SocketAddr;
 use std::rt::Runtime;
 use td_alarms::Alarms;
+use td_arrivals::{Arrivals, NoteError};
 use td_changes::Changes;
+use td_contacts::Contacts;
 use td_http_api::{ApiCall, Desk, DeskAnswer, Revision, Selection, StatusCode, Writer};
 use td_io::Device;
 use td_journal_files::Notes;
@@ -23,6 +25,7 @@ use td_replica::Catalogued;
 use td_schema_answers::write_schema;
 use td_semantics::Meter;
 use td_site_messages::{BROKEN, LACKING, NO_MEMORY};
+use td_trials::Trials;
 
 /// The peers that the program was started with.
 #[derive(Drop)]
@@ -41,6 +44,8 @@ pub struct DeskParts<'a, R: Drop, H> {
     pub peers: Peers,
     pub reversals: Reversals,
     pub alarms: Alarms,
+    pub arrivals: Arrivals,
+    pub contacts: Contacts,
     /// Its journal lacks statements that it had once, so it issues none until it has met another site.
     pub is_lacking: bool,
     /// A number that the program chose at this start.
@@ -63,6 +68,10 @@ pub struct SiteDesk<'a, R: Drop, H> {
     pub(crate) scopes: Scopes,
     pub(crate) reversals: Reversals,
     pub(crate) alarms: Alarms,
+    pub(crate) arrivals: Arrivals,
+    pub(crate) contacts: Contacts,
+    /// When the file of contacts was last written, in milliseconds since the event loop began; none if it was not.
+    pub(crate) contacts_saved: Option<u64>,
     pub(crate) console: PartialLine,
     /// Its journal lacks statements that it had once, so it issues none until it has met another site.
     pub(crate) is_lacking: bool,
@@ -97,11 +106,16 @@ impl<'a, R: Changes + Catalogued + Drop, H: Runtime + AllocGlobal> SiteDesk<'a, 
             peers,
             mut reversals,
             alarms,
+            mut arrivals,
+            contacts,
             is_lacking,
             start,
             mark,
         } = parts;
         let _ = reversals.update(&site)?;
+        if let Ok(held) = site.held() {
+            arrivals.begin(held.entries())?;
+        }
         let scopes = Scopes::new(alloc, &peers.addresses)?;
         Ok(SiteDesk {
             alloc,
@@ -115,6 +129,9 @@ impl<'a, R: Changes + Catalogued + Drop, H: Runtime + AllocGlobal> SiteDesk<'a, 
             scopes,
             reversals,
             alarms,
+            arrivals,
+            contacts,
+            contacts_saved: None,
             console: PartialLine::new(),
             is_lacking,
             mark,
@@ -162,18 +179,43 @@ impl<'a, R: Changes + Catalogued + Drop, H: Runtime + AllocGlobal> SiteDesk<'a, 
         self.marks = self.marks.wrapping_add(1);
     }
 
+    /// Takes note of when statements came that the site holds now, and reports if that cannot be written.
+    pub(crate) fn note_arrivals(&mut self)
+        ensures { R.seen self.new.site ≡ R.seen self.old.site }
+    {
+        let Ok(held) = self.site.held() else {
+            return;
+        };
+        if let Err(error) = self.arrivals.note(self.host, held.entries()) {
+            self.report_unnoted(error);
+        }
+    }
+
+    // Reports why it is not kept when statements came.
+    fn report_unnoted(&self, error: NoteError) {
+        match error {
+            NoteError::OutOfMemory => {
+                self.tell_line("fault memory: when statements came is not kept\n")
+            }
+            NoteError::Unwritten => {
+                self.tell_line("fault file: when statements came cannot be written\n")
+            }
+        }
+    }
+
     // Tells whoever watches the program. Nothing depends on whether that is seen.
     pub(crate) fn tell_line(&self, line: &str) {
         let _ = print!(self.host; "{line}");
     }
 
-    // Lends what the answers about the site need; nothing in it changes the site.
-    fn view(&self) -> SiteView<'_, R> {
+    /// Lends what the answers about the site need; nothing in it changes the site.
+    pub(crate) fn view(&self) -> SiteView<'_, R> {
         SiteView {
             alloc: self.alloc,
             site: &self.site,
             notes: self.notes,
             reversals: &self.reversals,
+            arrivals: &self.arrivals,
         }
     }
 
@@ -186,13 +228,7 @@ impl<'a, R: Changes + Catalogued + Drop, H: Runtime + AllocGlobal> SiteDesk<'a, 
             self.suspension.is_none() && self.site.is_open(),
         )?;
         write_truth(out, "lacking", self.is_lacking)?;
-        out.key("peers")?;
-        out.begin_array()?;
-        for peer in &self.peers.addresses {
-            let text = format!(in self.alloc; "{peer}")?;
-            out.string(text.as_str())?;
-        }
-        out.end_array()?;
+        self.write_contacts(out)?;
         self.write_alarms(out)?;
         self.meetings.write(out, self.now)?;
         Ok(StatusCode::OK)
@@ -308,7 +344,8 @@ impl<'a, R: Changes + Catalogued + Drop, H: Runtime + AllocGlobal> SiteDesk<'a, 
     }
 }
 
-impl<R: Changes + Catalogued + Drop, H: Runtime + AllocGlobal> Desk for SiteDesk<'_, R, H> {
+impl<R: Changes + Catalogued + Trials + Drop, H: Runtime + AllocGlobal> Desk
+    for SiteDesk<'_, R, H> {
     // The numbers are those of the program, of the site and of the desk.
     ghost revision = { λ desk. record {
       start = desk.start;
@@ -331,6 +368,7 @@ impl<R: Changes + Catalogued + Drop, H: Runtime + AllocGlobal> Desk for SiteDesk
             ApiCall::Relvars { counts } => members(self.tell_relvars(*counts, out)),
             ApiCall::Table { relvar } => self.export_table(relvar, out),
             ApiCall::Refused => members(self.view().tell_refused(out)),
+            ApiCall::Attention => members(self.tell_attention(out)),
             ApiCall::Log(filter) => members(self.view().tell_log(filter, out)),
             ApiCall::Script => members(self.tell_script(out)),
             ApiCall::Schema => members(self.tell_schema(out)),
@@ -344,6 +382,7 @@ impl<R: Changes + Catalogued + Drop, H: Runtime + AllocGlobal> Desk for SiteDesk
                 Ok(status) => Ok(DeskAnswer::Members(status)),
                 Err(error) => Err(error),
             },
+            ApiCall::Trial { text } => members(self.answer_trial(text, out)),
             ApiCall::Acknowledge { stamp } => members(self.acknowledge_stamp(stamp, out)),
             ApiCall::AcknowledgeAlarms { site } => members(self.acknowledge_alarms(*site, out)),
             ApiCall::Meet { address } => members(self.wish_for(address, out)),

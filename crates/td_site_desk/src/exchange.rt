@@ -8,7 +8,7 @@ use crate::received::TakingStep;
 use crate::scopes::{GreetedPeer, MeetingState, lacked_by};
 use crate::steps::{
     answer_bytes, answer_question_into, ask_into, compare_into, finish_bytes, greet_into,
-    greeted_vector, settle_bytes,
+    greeting_of, settle_bytes,
 };
 use std::alloc::AllocError;
 use std::io::Write;
@@ -269,6 +269,8 @@ impl<R: Changes + Catalogued + Digested + Drop, H: Runtime + AllocGlobal> SiteDe
         let Some(scope) = self.take_scope(meeting) else {
             return StepResult::Stop;
         };
+        let peer = greeting_of(self.alloc, greeting);
+        self.scopes.keep_greeting(meeting, peer);
         let next = match answer_bytes(self.alloc, &self.site, &scope, greeting, out) {
             Ok(()) => StepResult::Continue,
             Err(error) if is_refused(error) => {
@@ -305,8 +307,13 @@ impl<R: Changes + Catalogued + Digested + Drop, H: Runtime + AllocGlobal> SiteDe
             }
             Err(_) => MeetingOutcome::Failed,
         };
-        if let Some(MeetingState::Greeted(greeted)) = self.scopes.take(report.meeting) {
-            self.end_greeted(report, greeted);
+        let greeting = self.scopes.take_greeting(report.meeting);
+        match self.scopes.take(report.meeting) {
+            Some(MeetingState::Greeted(greeted)) => {
+                self.note_contact(report, outcome, greeting.as_ref(), Some(&greeted.scope));
+                self.end_greeted(report, greeted);
+            }
+            _state => self.note_contact(report, outcome, greeting.as_ref(), None),
         }
         self.mark_change();
         outcome
@@ -391,14 +398,19 @@ impl<R: Changes + Catalogued + Digested + Drop, H: Runtime + AllocGlobal> SiteDe
             out,
             &mut self.meter,
         );
-        let vector = greeted_vector(self.alloc, reply);
+        let greeting = greeting_of(self.alloc, reply);
+        let vector = match &greeting {
+            Some(greeting) => Some(&greeting.vector),
+            None => None,
+        };
         let step = TakingStep {
             received,
             came: entries.len(),
-            full_peer: self.full_peer(peer, vector.as_ref()),
+            full_peer: self.full_peer(peer, vector),
         };
         self.note_received(meeting, &scope, &step, before.as_ref());
-        let lacked = self.lacked(&scope, vector.as_ref());
+        let lacked = self.lacked(&scope, vector);
+        self.scopes.keep_greeting(meeting, greeting);
         self.end_settled(meeting, received, scope, lacked)
     }
 

@@ -8,9 +8,11 @@ use crate::digests::write_digests;
 use crate::reversals::Reversals;
 use crate::values::{Unshown, write_heading, write_value};
 use crate::words::{
-    fault, fault_words, read_stamp, reason_of, write_count, write_stamp, write_text, write_truth,
+    fault, fault_words, read_stamp, reason_of, write_breaks, write_count, write_null, write_stamp,
+    write_text, write_truth,
 };
 use std::alloc::{AllocError, Global};
+use td_arrivals::Arrivals;
 use td_changes::Changes;
 use td_headings::{Catalogue, Origin};
 use td_http_api::{Selection, StatusCode, Writer};
@@ -28,6 +30,7 @@ pub(crate) struct SiteView<'a, R> {
     pub(crate) site: &'a R,
     pub(crate) notes: &'a Notes,
     pub(crate) reversals: &'a Reversals,
+    pub(crate) arrivals: &'a Arrivals,
 }
 
 // The status of the answer if a query is not answered.
@@ -73,12 +76,6 @@ fn write_vector(alloc: Global, held: &Held, out: &mut Writer) -> Result<(), Allo
 fn write_site(alloc: Global, site: u16, number: u32, out: &mut Writer) -> Result<(), AllocError> {
     let name = format!(in alloc; "{site}")?;
     write_count(out, name.as_str(), u64::from(number))
-}
-
-// Appends a member that is null.
-fn write_null(out: &mut Writer, name: &str) -> Result<(), AllocError> {
-    out.key(name)?;
-    out.null()
 }
 
 // Appends the author of a statement as the member `author`, null if its text names none.
@@ -174,8 +171,8 @@ impl<R: Changes + Catalogued> SiteView<'_, R> {
         out.end_array()
     }
 
-    // Appends that a statement is done, and what it changed.
-    fn tell_changes(&self, stamp: &Stamp, out: &mut Writer) -> Result<(), AllocError> {
+    /// Appends that a statement is done, and what it changed.
+    pub(crate) fn tell_changes(&self, stamp: &Stamp, out: &mut Writer) -> Result<(), AllocError> {
         write_truth(out, "done", true)?;
         match self.site.changed_by(*stamp) {
             Ok(changes) => write_changes(self.alloc, self.site.catalogue(), changes, out),
@@ -183,10 +180,17 @@ impl<R: Changes + Catalogued> SiteView<'_, R> {
         }
     }
 
-    // Appends why a statement is refused, and whether it was done here before.
-    fn tell_reason(&self, stamp: &Stamp, reason: &str, out: &mut Writer) -> Result<(), AllocError> {
+    // Appends why a statement is refused, which test it breaks, and whether it was done here before.
+    fn tell_reason(
+        &self,
+        stamp: &Stamp,
+        reason: &str,
+        outcome: &Outcome,
+        out: &mut Writer,
+    ) -> Result<(), AllocError> {
         let is_own = stamp.site == self.site.site();
         write_text(out, "reason", reason)?;
+        write_breaks(out, outcome)?;
         write_truth(out, "reversed", is_own && self.reversals.contains(stamp))
     }
 
@@ -198,9 +202,33 @@ impl<R: Changes + Catalogued> SiteView<'_, R> {
         out: &mut Writer,
     ) -> Result<(), AllocError> {
         match reason_of(self.alloc, outcome)? {
-            Some(reason) => self.tell_reason(stamp, reason.as_str(), out),
+            Some(reason) => self.tell_reason(stamp, reason.as_str(), outcome, out),
             None => self.tell_changes(stamp, out),
         }
+    }
+
+    // Appends when a statement came here, null where that is not known.
+    fn write_came(&self, stamp: &Stamp, out: &mut Writer) -> Result<(), AllocError> {
+        match self.arrivals.came(stamp) {
+            Some(seconds) => write_count(out, "came", seconds),
+            None => write_null(out, "came"),
+        }
+    }
+
+    /// Appends the members of a statement: its stamp, and what it changed or why it is refused.
+    pub(crate) fn write_entry(
+        &self,
+        entry: &Entry,
+        outcome: &Outcome,
+        out: &mut Writer,
+    ) -> Result<(), AllocError> {
+        let stamp = entry.stamp();
+        write_stamp(self.alloc, out, &stamp)?;
+        write_count(out, "number", u64::from(entry.seq))?;
+        write_author(out, entry.text.as_str())?;
+        self.write_came(&stamp, out)?;
+        self.tell_outcome(&stamp, outcome, out)?;
+        write_text(out, "text", entry.text.as_str())
     }
 
     /// Appends a statement with its stamp, and with what it changed or why it is refused.
@@ -210,13 +238,8 @@ impl<R: Changes + Catalogued> SiteView<'_, R> {
         outcome: &Outcome,
         out: &mut Writer,
     ) -> Result<(), AllocError> {
-        let stamp = entry.stamp();
         out.begin_object()?;
-        write_stamp(self.alloc, out, &stamp)?;
-        write_count(out, "number", u64::from(entry.seq))?;
-        write_author(out, entry.text.as_str())?;
-        self.tell_outcome(&stamp, outcome, out)?;
-        write_text(out, "text", entry.text.as_str())?;
+        self.write_entry(entry, outcome, out)?;
         out.end_object()
     }
 

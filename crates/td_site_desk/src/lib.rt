@@ -19,9 +19,11 @@
 //! meeting alone.
 #![tactic(auto)]
 
+mod attention;
 mod authors;
 mod changes;
 mod console;
+mod contacts;
 mod desk;
 mod differing;
 mod digests;
@@ -33,14 +35,17 @@ mod log;
 mod meetings;
 mod received;
 mod reversals;
+mod running;
 mod scopes;
 mod server;
 mod statements;
 mod steps;
 mod suspension;
+mod trials;
 mod values;
 mod words;
 
 pub use desk::{DeskParts, Peers, SiteDesk};
 pub use reversals::Reversals;
+pub use running::serve;
 pub use server::SiteServer;

@@ -190,11 +190,19 @@ impl<R: Changes + Catalogued + Drop, H: Runtime + AllocGlobal> SiteDesk<'_, R, H
         }
     }
 
-    // Appends which statements have another outcome now, or change something else.
-    fn push_changes(&self, words: &mut String, before: &Snapshot) -> Result<(), AllocError> {
+    // What a step changed that took entries; none if nothing was new, or if memory runs out.
+    fn changes_since(
+        &self,
+        step: &TakingStep,
+        before: Option<&Snapshot>,
+    ) -> Option<MeetingChanges> {
+        let before = before?;
+        if step.fresh() == 0 {
+            return None;
+        }
         match before.compare(self.alloc, &self.site, "") {
-            Ok(changes) => push_meeting_changes(words, &changes),
-            Err(_) => Ok(()),
+            Ok(changes) => Some(changes),
+            Err(_) => None,
         }
     }
 
@@ -225,19 +233,17 @@ impl<R: Changes + Catalogued + Drop, H: Runtime + AllocGlobal> SiteDesk<'_, R, H
         push_full_peer(words, step.full_peer)
     }
 
-    // Appends what a step took, or why it failed, with what that changed if something was new, and with what was not
-    // exchanged.
+    // Appends what a step took, or why it failed, with what that changed, and with what was not exchanged.
     fn push_step(
         &self,
         words: &mut String,
         scope: &MeetingScope,
         step: &TakingStep,
-        before: Option<&Snapshot>,
+        changes: Option<&MeetingChanges>,
     ) -> Result<(), AllocError> {
         self.push_taken(words, step)?;
-        match before {
-            Some(before) if step.fresh() > 0 => self.push_changes(words, before)?,
-            _ => {}
+        if let Some(changes) = changes {
+            push_meeting_changes(words, changes)?;
         }
         self.push_left_out(words, scope, step)
     }
@@ -247,28 +253,44 @@ impl<R: Changes + Catalogued + Drop, H: Runtime + AllocGlobal> SiteDesk<'_, R, H
         &self,
         scope: &MeetingScope,
         step: &TakingStep,
-        before: Option<&Snapshot>,
+        changes: Option<&MeetingChanges>,
     ) -> Result<String, AllocError> {
         let mut words = String::new(self.alloc);
-        self.push_step(&mut words, scope, step, before)?;
+        self.push_step(&mut words, scope, step, changes)?;
         Ok(words)
     }
 
+    // Notes which statements of this site are refused now, and which change something else; returns how many were not
+    // known.
+    fn add_marks(&mut self, changes: Option<MeetingChanges>) -> Result<usize, AllocError>
+        ensures { R.seen self.new.site ≡ R.seen self.old.site }
+    {
+        let redone = match changes {
+            Some(changes) => self.reversals.add_redone(changes.redone)?,
+            None => 0,
+        };
+        let reversed = self.reversals.update(&self.site)?;
+        Ok(reversed.saturating_add(redone))
+    }
+
     // Looks at what became of the statements of this site, if others came.
-    fn review(&mut self, fresh: usize)
+    fn review(&mut self, fresh: usize, changes: Option<MeetingChanges>)
         ensures { R.seen self.new.site ≡ R.seen self.old.site }
     {
         if fresh == 0 {
             return;
         }
-        let Ok(more) = self.reversals.update(&self.site) else {
+        self.note_arrivals();
+        let Ok(more) = self.add_marks(changes) else {
             self.tell_line(
-                "fault memory: whether statements of this site are refused now is not known\n",
+                "fault memory: whether statements of this site came to something else is not known\n",
             );
             return;
         };
         if more > 0 {
-            self.tell_line("statements that were done here are refused now: GET /api/refused\n");
+            self.tell_line(
+                "statements that were done here are refused now, or change something else: GET /api/attention\n",
+            );
             self.save_reversals();
         }
     }
@@ -303,8 +325,9 @@ impl<R: Changes + Catalogued + Drop, H: Runtime + AllocGlobal> SiteDesk<'_, R, H
         if step.received.is_ok() && !scope.leaves_out(self.site.site()) {
             self.end_lacking();
         }
-        let words = self.step_words(scope, step, before);
+        let changes = self.changes_since(step, before);
+        let words = self.step_words(scope, step, changes.as_ref());
         self.note(meeting, step.outcome(), words);
-        self.review(step.fresh());
+        self.review(step.fresh(), changes);
     }
 }

@@ -28,6 +28,13 @@ pub(crate) struct GreetedPeer {
     pub(crate) lacked: Vec<(u16, u32)>,
 }
 
+/// What another site said of itself.
+#[derive(Drop)]
+pub(crate) struct PeerGreeting {
+    pub(crate) site: u16,
+    pub(crate) vector: Vector,
+}
+
 /// A peer that was called.
 #[derive(Drop)]
 struct KnownPeer {
@@ -73,6 +80,7 @@ pub(crate) fn lacked_by(
 #[derive(Drop)]
 pub(crate) struct Scopes {
     states: Vec<Option<MeetingState>>,
+    greetings: Vec<Option<PeerGreeting>>,
     known: Vec<KnownPeer>,
 }
 
@@ -81,6 +89,10 @@ impl Scopes {
         let mut states = Vec::with_capacity(alloc, MOST_MEETINGS)?;
         for _ in 0..MOST_MEETINGS {
             states.push(None)?;
+        }
+        let mut greetings = Vec::with_capacity(alloc, MOST_MEETINGS)?;
+        for _ in 0..MOST_MEETINGS {
+            greetings.push(None)?;
         }
         let mut known = Vec::with_capacity(alloc, peers.len())?;
         for peer in peers {
@@ -91,7 +103,11 @@ impl Scopes {
                 lacked: Vec::new(alloc),
             })?;
         }
-        Ok(Scopes { states, known })
+        Ok(Scopes {
+            states,
+            greetings,
+            known,
+        })
     }
 
     /// Keeps how far a meeting has come.
@@ -104,6 +120,21 @@ impl Scopes {
     /// How far a meeting has come, which is kept no longer.
     pub(crate) fn take(&mut self, meeting: usize) -> Option<MeetingState> {
         match self.states.get_mut(meeting) {
+            Some(kept) => kept.take(),
+            None => None,
+        }
+    }
+
+    /// Keeps what the other site of a meeting said of itself.
+    pub(crate) fn keep_greeting(&mut self, meeting: usize, greeting: Option<PeerGreeting>) {
+        if let Some(kept) = self.greetings.get_mut(meeting) {
+            *kept = greeting;
+        }
+    }
+
+    /// What the other site of a meeting said of itself, which is kept no longer.
+    pub(crate) fn take_greeting(&mut self, meeting: usize) -> Option<PeerGreeting> {
+        match self.greetings.get_mut(meeting) {
             Some(kept) => kept.take(),
             None => None,
         }

@@ -20,6 +20,7 @@ use td_event_loop::{
 };
 use td_http_api::{Api, Desk};
 use td_replica::Catalogued;
+use td_trials::Trials;
 
 /// A site that is asked by HTTP and meets others.
 #[derive(Drop)]
@@ -42,7 +43,8 @@ impl<'a, R: Drop, H> SiteServer<'a, R, H> {
     }
 }
 
-impl<R: Changes + Catalogued + Drop, H: Runtime + AllocGlobal> Service for SiteServer<'_, R, H> {
+impl<R: Changes + Catalogued + Trials + Drop, H: Runtime + AllocGlobal> Service
+    for SiteServer<'_, R, H> {
     // A request is served once, by what the desk does to the site.
     ghost answers = { λ old request response new.
         Leads ⟦<SiteDesk<'static, R, H> as Desk>⟧.answers
@@ -65,15 +67,17 @@ impl<R: Changes + Catalogued + Drop, H: Runtime + AllocGlobal> Service for SiteS
     }
 }
 
-impl<R: Changes + Catalogued + Digested + Drop, H: Runtime + AllocGlobal> Meets
+impl<R: Changes + Catalogued + Trials + Digested + Drop, H: Runtime + AllocGlobal> Meets
     for SiteServer<'_, R, H> {
-    ghost keeps = { λ old new. R.seen new.api.desk.site ≡ R.seen old.api.desk.site };
+    // The guard is the same after each call.
+    ghost keeps = { λ old new. (new.api.guard ≡ old.api.guard)
+        × (R.seen new.api.desk.site ≡ R.seen old.api.desk.site) };
 
-    ghost settles = { λ old reply step new.
-        Settles (R.seen old.api.desk.site) reply step (R.seen new.api.desk.site) };
+    ghost settles = { λ old reply step new. (new.api.guard ≡ old.api.guard)
+        × Settles (R.seen old.api.desk.site) reply step (R.seen new.api.desk.site) };
 
-    ghost finishes = { λ old entries new.
-        Finishes (R.seen old.api.desk.site) entries (R.seen new.api.desk.site) };
+    ghost finishes = { λ old entries new. (new.api.guard ≡ old.api.guard)
+        × Finishes (R.seen old.api.desk.site) entries (R.seen new.api.desk.site) };
 
     fn open(&mut self, meeting: usize, peer: SocketAddr, out: &mut Outbox) -> Option<FirstMessage> {
         self.api.desk.open(meeting, peer, out)
@@ -128,7 +132,7 @@ impl<R: Changes + Catalogued + Digested + Drop, H: Runtime + AllocGlobal> Meets
     }
 }
 
-impl<R: Changes + Catalogued + Digested + Drop, H: Runtime + AllocGlobal> Server
+impl<R: Changes + Catalogued + Trials + Digested + Drop, H: Runtime + AllocGlobal> Server
     for SiteServer<'_, R, H> {
     fn answered(&self) -> u64 {
         self.answered

@@ -9,7 +9,8 @@ ghost use Rattle.td_statement_keys.specs.Keys.{entry_with, issued_text};
 use crate::desk::SiteDesk;
 use crate::inquiries::{STAMP_WORDS, status_of_tell};
 use crate::words::{
-    fault, fault_words, is_same, read_stamp, reason_of, write_stamp, write_text, write_truth,
+    fault, fault_words, is_same, read_stamp, reason_of, write_breaks, write_stamp, write_text,
+    write_truth,
 };
 use std::alloc::{AllocError, Global};
 use std::rt::Runtime;
@@ -36,27 +37,6 @@ fn status_of(error: IssueError) -> StatusCode
             StatusCode::SERVICE_UNAVAILABLE
         }
     }
-}
-
-// Appends the stamp of a statement, that it is done or why it is refused, and a warning; the status is 200 for all.
-fn write_issued(
-    alloc: Global,
-    out: &mut Writer,
-    stamp: &Stamp,
-    reason: Option<&str>,
-    warning: Option<&str>,
-) -> Result<StatusCode, AllocError>
-    ensures { IfOk result (λ status. status ≡ 200) }
-{
-    write_stamp(alloc, out, stamp)?;
-    match reason {
-        Some(reason) => write_text(out, "refused", reason)?,
-        None => write_truth(out, "done", true)?,
-    }
-    if let Some(warning) = warning {
-        write_text(out, "warning", warning)?;
-    }
-    Ok(StatusCode::OK)
 }
 
 // What is said of a statement that the journal does not have.
@@ -86,7 +66,23 @@ fn outcome_at<'a>(outcomes: &'a [(Stamp, Outcome)], stamp: &Stamp) -> Option<&'a
 }
 
 impl<R: Changes + Catalogued + Drop, H: Runtime + AllocGlobal> SiteDesk<'_, R, H> {
-    // Answers what became of a statement, as the site has it now.
+    // Appends that a statement is done and what it changed, or why it is refused and which test it breaks.
+    fn write_became(
+        &self,
+        stamp: &Stamp,
+        outcome: &Outcome,
+        out: &mut Writer,
+    ) -> Result<(), AllocError> {
+        match reason_of(self.alloc, outcome)? {
+            Some(reason) => {
+                write_text(out, "refused", reason.as_str())?;
+                write_breaks(out, outcome)
+            }
+            None => self.view().tell_changes(stamp, out),
+        }
+    }
+
+    // Answers what became of a statement, as the site has it now, with a warning if there is one.
     fn tell_outcome(
         &self,
         stamp: &Stamp,
@@ -95,12 +91,12 @@ impl<R: Changes + Catalogued + Drop, H: Runtime + AllocGlobal> SiteDesk<'_, R, H
     ) -> Result<StatusCode, AllocError>
         ensures { IfOk result (λ status. status ≡ 200) }
     {
-        let reason = reason_of(self.alloc, outcome)?;
-        let words = match &reason {
-            Some(reason) => Some(reason.as_str()),
-            None => None,
-        };
-        write_issued(self.alloc, out, stamp, words, self.warning())
+        write_stamp(self.alloc, out, stamp)?;
+        self.write_became(stamp, outcome, out)?;
+        if let Some(warning) = self.warning() {
+            write_text(out, "warning", warning)?;
+        }
+        Ok(StatusCode::OK)
     }
 
     // Answers what became of a statement that was issued. A statement that is done is noted as such: no answer reports
@@ -112,6 +108,7 @@ impl<R: Changes + Catalogued + Drop, H: Runtime + AllocGlobal> SiteDesk<'_, R, H
         if matches!(issued.outcome, Outcome::Done) {
             let _ = self.reversals.add_done(issued.stamp);
         }
+        self.note_arrivals();
         self.tell_outcome(&issued.stamp, &issued.outcome, out)
     }
 
@@ -124,8 +121,8 @@ impl<R: Changes + Catalogued + Drop, H: Runtime + AllocGlobal> SiteDesk<'_, R, H
         fault_words(self.alloc, self.site.catalogue(), self.notes, issue)
     }
 
-    // Answers why a statement is not issued, and tells whoever watches too if the journal was not written.
-    fn tell_not_issued(
+    /// Answers why a statement is not issued, and tells whoever watches too if the journal was not written.
+    pub(crate) fn tell_not_issued(
         &self,
         text: &str,
         error: IssueError,

@@ -3,6 +3,7 @@
 ghost use Rattle.std.specs.Prelude.{◌≡◌};
 ghost use Rattle.td_site_desk.specs.Meetings.{FinishesBytes, SettlesBytes};
 
+use crate::scopes::PeerGreeting;
 use std::alloc::Global;
 use td_checked_meetings::{
     MeetingScope, Received, answer, answer_question, ask, compare, finish, greet, settle,
@@ -90,10 +91,13 @@ pub(crate) fn answer_bytes<R: Replica>(
     }
 }
 
-/// The version vector of a greeting; none if it is not complete, or if memory runs out.
-pub(crate) fn greeted_vector(alloc: Global, greeting: &[u8]) -> Option<Vector> {
+/// What a site says of itself in a greeting; none if it is not complete, or if memory runs out.
+pub(crate) fn greeting_of(alloc: Global, greeting: &[u8]) -> Option<PeerGreeting> {
     match read_greeting(alloc, &mut Device::new(greeting)) {
-        Ok(greeting) => Some(greeting.vector),
+        Ok(greeting) => Some(PeerGreeting {
+            site: greeting.site,
+            vector: greeting.vector,
+        }),
         Err(_) => None,
     }
 }

@@ -61,6 +61,30 @@ pub(crate) fn write_truth(out: &mut Writer, name: &str, truth: bool) -> Result<(
     out.boolean(truth)
 }
 
+// Appends which test a statement breaks, by its kind and name.
+fn write_broken(out: &mut Writer, kind: &str, name: &str) -> Result<(), AllocError> {
+    out.key("breaks")?;
+    out.begin_object()?;
+    write_text(out, "kind", kind)?;
+    write_text(out, "name", name)?;
+    out.end_object()
+}
+
+/// Appends the key, by the name of its relvar, or the constraint that a statement breaks, if it breaks one.
+pub(crate) fn write_breaks(out: &mut Writer, outcome: &Outcome) -> Result<(), AllocError> {
+    match outcome {
+        Outcome::BreaksKey(relvar) => write_broken(out, "key", relvar.as_str()),
+        Outcome::BreaksConstraint(name) => write_broken(out, "constraint", name.as_str()),
+        _ => Ok(()),
+    }
+}
+
+/// Appends a member that is null.
+pub(crate) fn write_null(out: &mut Writer, name: &str) -> Result<(), AllocError> {
+    out.key(name)?;
+    out.null()
+}
+
 /// Appends a stamp as the member `stamp`.
 pub(crate) fn write_stamp(
     alloc: Global,

@@ -48,6 +48,7 @@ pub use gaps::push_own_gap;
 pub use journal::{failure_words, push_journal, push_read_only_journal, push_readable};
 pub use meeting::{MeetingChanges, Snapshot};
 pub use outcomes::{push_log, push_outcome, push_raise, push_reason, push_refused, raise_meaning};
+pub use redone::RedoneStatement;
 pub use room::push_room;
 pub use unmet::push_met;
 pub use wording::{BROKEN, LACKING, NO_MEMORY, UNCHANGED, push_count};

@@ -1,7 +1,9 @@
 //! What a meeting changed of what a site said before.
 
 use crate::outcomes::{are_same, is_refused, push_stamped};
-use crate::redone::{DoneHere, done_here, push_redone, redone_since};
+use crate::redone::{
+    DoneHere, RedoneStatement, done_here, push_redone, redone_since, redone_statements,
+};
 use std::alloc::{AllocError, Global};
 use td_changes::Changes;
 use td_headings::Catalogue;
@@ -27,6 +29,8 @@ pub struct MeetingChanges {
     pub line_end: String,
     /// Lines after it.
     pub lines: String,
+    /// The statements that were issued at the site and are done, and change something else now.
+    pub redone: Vec<RedoneStatement>,
 }
 
 // What becomes of a statement with another outcome now.
@@ -214,6 +218,7 @@ impl MeetingChanges {
         MeetingChanges {
             line_end: String::new(alloc),
             lines: String::new(alloc),
+            redone: Vec::new(alloc),
         }
     }
 
@@ -236,7 +241,9 @@ impl MeetingChanges {
         before: &Snapshot,
         now: &Snapshot,
     ) -> Result<(), AllocError> {
-        let all = redone_since(*self.lines.allocator(), &before.done, &now.done)?;
+        let alloc = *self.lines.allocator();
+        let all = redone_since(alloc, &before.done, &now.done)?;
+        self.redone = redone_statements(alloc, catalogue, &before.done, &all)?;
         push_redone(self, catalogue, &before.done, &now.done, &all)
     }
 

@@ -25,6 +25,14 @@ pub(crate) struct Redone {
     now: usize,
 }
 
+/// A statement that was issued at the site and is done, and changes something else now.
+#[derive(Drop)]
+pub struct RedoneStatement {
+    pub stamp: Stamp,
+    /// What it changed before, in one line.
+    pub was: String,
+}
+
 /// The statements that were issued at the site and are done, in the order of stamps.
 pub(crate) fn done_here<R: Changes>(
     alloc: Global,
@@ -66,6 +74,37 @@ pub(crate) fn redone_since(
         }
     }
     Ok(found)
+}
+
+// What a statement changed, in one line.
+fn words_of(
+    alloc: Global,
+    catalogue: &Catalogue,
+    changes: &[Change],
+) -> Result<String, AllocError> {
+    let mut words = String::new(alloc);
+    push_copies(&mut words, catalogue, changes)?;
+    Ok(words)
+}
+
+/// Each of them, with what it changed before.
+pub(crate) fn redone_statements(
+    alloc: Global,
+    catalogue: &Catalogue,
+    before: &[DoneHere],
+    all: &[Redone],
+) -> Result<Vec<RedoneStatement>, AllocError> {
+    let mut statements = Vec::new(alloc);
+    for it in all {
+        if let Some(done) = before.get(it.before) {
+            let was = words_of(alloc, catalogue, &done.changes)?;
+            statements.push(RedoneStatement {
+                stamp: done.stamp,
+                was,
+            })?;
+        }
+    }
+    Ok(statements)
 }
 
 // Appends the line that says what the statement changed, at this time.

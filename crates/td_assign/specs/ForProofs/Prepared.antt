@@ -65,3 +65,17 @@ abbrev pub IsPrepared : DatabaseData → ℕ → List ℕ → Prepared → Type 
 IsPrepared d dialect text (Changes v ds) = Steps d dialect text Done (with_all d (given_to v.items)) × MayChange d v.items ds.items
 IsPrepared d dialect text (InPlace n y) = (x : TypedStatement) × IsRead d.catalogue dialect text x × MakesTurn d x n y
 IsPrepared d dialect text (Refused o) = Steps d dialect text o d
+
+-- nothing has to be changed where it is, to be judged
+abbrev pub IsWhole : Prepared → Type 0
+IsWhole (InPlace n x) = ⊥
+IsWhole p = Unit {0}
+
+abbrev pub AreAssignedWhole : DatabaseData → List TypedAssignment → Prepared → Type 0
+AreAssignedWhole d xs p = AreAssignedTo d xs p × IsWhole p
+
+abbrev pub IsMadeWhole : DatabaseData → TypedStatement → Prepared → Type 0
+IsMadeWhole d x p = IsMade d x p × IsWhole p
+
+abbrev pub IsPreparedWhole : DatabaseData → ℕ → List ℕ → Prepared → Type 0
+IsPreparedWhole d dialect text p = IsPrepared d dialect text p × IsWhole p
