@@ -17,6 +17,7 @@ COMMANDS = {
     "uninstall": ("tools/uninstall", "removes what install put there"),
     "prove": ("tools/prove", "checks a crate while it is worked on"),
     "attack": ("tools/attack", "tries wrong bodies, each of which the prover must refuse"),
+    "page": ("tools/page", "joins the page of td_server from its sources"),
     "gate": ("tools/gate", "proves and tests everything from nothing, or the crates that are named"),
 }
 
@@ -32,13 +33,14 @@ TESTS = {
     "schedules": "honest sites that are killed and cut off, none of which may ever differ",
     "crashes": "journals as a disk may leave them where the power fails, at each moment of some runs",
     "requests": "requests to the server, one after another, with what each is answered",
+    "page": "the page in a browser, with servers that meet",
     "memory": "runs without memory, and streams that fail",
     "anew": "random statements at sites that meet, beside a site that runs them all anew",
     "differential": "random lines over both kinds of sites",
     "model": "random statements and queries with a model in Python",
     "type-errors": "type errors that are put into random queries",
     "limits": "lines and scripts of 100 MB",
-    "docs": "all that the documents say of the tree: the next three",
+    "docs": "all that the documents say of the tree: the next three; and whether the page is what its sources give",
     "claims": "docs/CLAIMS.md with the contracts that it names",
     "documents": "links, files and names of the code in each page, and its limits",
     "names": "names that stand for two things",
