@@ -1,5 +1,7 @@
 //! The lines of the file.
 
+ghost use Rattle.std.specs.Prelude.{◌≡◌, true, false};
+
 use std::alloc::{AllocError, Global};
 use std::fmt::Write;
 use std::fs::{OpenFile, OpenOptions};
@@ -43,7 +45,10 @@ fn read_line(line: &str) -> Option<Arrival> {
 }
 
 // Whether the two are of one stamp: then the first one is replaced by the later one.
-fn replaces(later: &Arrival, earlier: &mut Arrival) -> bool {
+fn replaces(later: &Arrival, earlier: &mut Arrival) -> bool
+    ensures replaced { result ≡ true → earlier.new ≡ later.now }
+    ensures kept { result ≡ false → earlier.new ≡ earlier.old }
+{
     let is_same = later.stamp == earlier.stamp;
     if is_same {
         *earlier = *later;

@@ -1,5 +1,7 @@
 //! The sites that were met, and the addresses that are called.
 
+ghost use Rattle.std.specs.Prelude.{◌≡◌, true, false};
+
 use crate::lines::{contacts_in, push_contact};
 use std::alloc::{AllocError, Global};
 use std::net::SocketAddr;
@@ -64,7 +66,11 @@ fn new_contact(alloc: Global, site: Option<u16>, address: SocketAddr, is_called:
 
 impl Contact {
     // Takes note of a meeting that ended.
-    fn note(&mut self, meeting: MetSite, now: Option<u64>) {
+    fn note(&mut self, meeting: MetSite, now: Option<u64>)
+        ensures tried { self.new.tried ≡ now }
+        ensures met { meeting.is_met ≡ true → (self.new.met ≡ now) × (self.new.failed ≡ 0) }
+        ensures failed { meeting.is_met ≡ false → self.new.met ≡ self.old.met }
+    {
         let MetSite {
             site,
             address,

@@ -7,7 +7,7 @@ use std::net::SocketAddr;
 use std::rt::Files;
 use td_paths::{Unreadable, read_plain};
 
-/// What stands in place of a number that is not known.
+/// The text of a number that is not known.
 const UNKNOWN: &str = "-";
 
 // A number, or none where it is not known; an error if it is neither.
