@@ -40,17 +40,6 @@ impl Answer {
         push_fault(&mut self.text, catalogue, notes, fault)?;
         self.text.push_str("\n")
     }
-
-    /// Says a fault in place of what it said.
-    pub fn refuse(
-        &mut self,
-        catalogue: &Catalogue,
-        notes: &Notes,
-        fault: Fault<'_>,
-    ) -> Result<(), AllocError> {
-        self.text.clear();
-        self.push_fault(catalogue, notes, fault)
-    }
 }
 
 /// Writes that there is no memory for an answer, without memory.

@@ -3,6 +3,7 @@
 use std::alloc::Global;
 use std::rt::Files;
 use td_alarms::Alarms;
+use td_arrivals::Arrivals;
 use td_paths::Unreadable;
 use td_site_opening::{end_rebuild, find_mark, open_alarms};
 
@@ -11,6 +12,8 @@ use td_site_opening::{end_rebuild, find_mark, open_alarms};
 pub(crate) struct Companions {
     /// The sites whose statements differ elsewhere.
     pub alarms: Alarms,
+    /// When the statements of the site came; none if that is not kept.
+    pub arrivals: Option<Arrivals>,
     /// The name of a file that is there until a rebuilt site has met another one, if it is there.
     pub mark: Option<String>,
 }
@@ -24,7 +27,11 @@ impl Companions {
     ) -> Result<Companions, Unreadable> {
         let alarms = open_alarms(alloc, host, journal)?;
         match find_mark(alloc, host, journal) {
-            Ok(mark) => Ok(Companions { alarms, mark }),
+            Ok(mark) => Ok(Companions {
+                alarms,
+                arrivals: None,
+                mark,
+            }),
             Err(_) => Err(Unreadable::OutOfMemory),
         }
     }

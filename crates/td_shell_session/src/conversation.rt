@@ -14,12 +14,14 @@ use crate::timing::{begin, push_time};
 use std::alloc::Global;
 use std::time::Instant;
 use std::{mem, str};
+use td_arrivals::NoteError;
 use td_changes::Changes;
 use td_io::{Sink, put, write_all};
 use td_listings::{ListingError, listing};
 use td_replica::{Catalogued, Replica};
 use td_shell_input::{DotCommand, Standing, command_of};
 use td_site_messages::{SiteFault, push_own_alarm};
+use td_site_opening::complain;
 
 // What follows an answer.
 #[derive(Clone, Copy, PartialEq, Eq)]
@@ -68,13 +70,35 @@ fn put_fault<R: Catalogued + Drop, P: Platform>(
     }
 }
 
-// Says what a line is answered, or why not.
+// Takes note of when the statements came that the site holds now, and reports if that cannot be kept.
+fn note_arrivals<R: Replica + Drop, P: Platform>(run: &mut Run<'_, P>, session: &mut Session<R>) {
+    let Ok(held) = session.site.held() else {
+        return;
+    };
+    let Some(arrivals) = &mut session.companions.arrivals else {
+        return;
+    };
+    match arrivals.note(run.host, held.entries()) {
+        Ok(()) => {}
+        Err(NoteError::OutOfMemory) => complain(
+            run.faults,
+            "fault memory: when statements came is not kept\n",
+        ),
+        Err(NoteError::Unwritten) => complain(
+            run.faults,
+            "fault file: when statements came cannot be written\n",
+        ),
+    }
+}
+
+// Says what a line is answered, or why not, after it has taken note of the statements that came by it.
 fn say<R: Catalogued + Drop, P: Platform>(
     run: &mut Run<'_, P>,
     session: &mut Session<R>,
     answer: &Answer,
     answered: Result<(), Fault<'_>>,
 ) -> Result<(), SessionEnd> {
+    note_arrivals(run, session);
     match answered {
         Ok(()) => put_answer(run, session, answer),
         Err(fault) => put_fault(run, session, fault),

@@ -166,7 +166,10 @@ fn answer_entry<R: Changes + Catalogued>(
 ) -> Result<(), AllocError> {
     match issue_dumped(&mut answer.text, site, entry, meter) {
         Ok(()) => Ok(()),
-        Err(fault) => answer.refuse(site.catalogue(), notes, fault),
+        Err(fault) => {
+            answer.text.clear();
+            answer.push_fault(site.catalogue(), notes, fault)
+        }
     }
 }
 

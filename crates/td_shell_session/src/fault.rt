@@ -105,18 +105,6 @@ pub(crate) enum FileFault {
     Unwritten(NotWritten),
 }
 
-impl From<PlainFault> for Fault<'_> {
-    fn from(fault: PlainFault) -> Self {
-        Fault::Plain(fault)
-    }
-}
-
-impl<'a> From<SiteFault<'a>> for Fault<'a> {
-    fn from(fault: SiteFault<'a>) -> Self {
-        Fault::Site(fault)
-    }
-}
-
 impl From<AllocError> for Fault<'_> {
     fn from(_e: AllocError) -> Self {
         Fault::Site(SiteFault::NoMemory)

@@ -12,6 +12,7 @@ use crate::session::{Session, check_open};
 use crate::words::ShellOptions;
 use std::alloc::{AllocError, Global};
 use td_alarms::Alarms;
+use td_arrivals::Arrivals;
 use td_changes::Changes;
 use td_io::Sink;
 use td_journal::{Reopened, StoreError, keep_journal};
@@ -32,6 +33,10 @@ const LINE_EDITING: &str = "for line editing run: rlwrap ./td_shell ..\n";
 
 /// What follows the alarms of a site that starts: the command that ends them.
 const ALARM_HINT: &str = ", and .alarms acknowledge SITE ends them";
+
+// What is said if the file cannot be read that has when statements came.
+const UNREAD_ARRIVALS: &str =
+    "fault file: when statements came cannot be read, and is not kept; move the file that ends in .came away, which is beside the journal\n";
 
 /// Where a site comes from.
 #[derive(Clone, Copy)]
@@ -164,12 +169,38 @@ fn first_lines<R: Replica>(
     Ok(inputs)
 }
 
+// When the statements came that a site holds, if it keeps a journal, or a report that this is not read.
+fn open_arrivals<R: Replica, P: Platform>(
+    run: &mut Run<'_, P>,
+    site: &R,
+    origin: Origin<'_>,
+) -> Result<Option<Arrivals>, AllocError> {
+    let Origin::Kept(journal) = origin else {
+        return Ok(None);
+    };
+    let name = format!(in run.alloc; "{journal}.came")?;
+    let mut arrivals = match Arrivals::open(run.alloc, run.host, Some(name)) {
+        Ok(arrivals) => arrivals,
+        Err(Unreadable::OutOfMemory) => return Err(AllocError),
+        Err(_) => {
+            complain(run.faults, UNREAD_ARRIVALS);
+            return Ok(None);
+        }
+    };
+    if let Ok(held) = site.held() {
+        arrivals.begin(held.entries())?;
+    }
+    Ok(Some(arrivals))
+}
+
 // Converses, and returns the exit status: whether a fault was answered that nobody saw come.
 fn hold<R: Changes + Catalogued + Drop, P: Platform>(
     run: &mut Run<'_, P>,
     session: &mut Session<R>,
+    origin: Origin<'_>,
     keeps_going: bool,
 ) -> Result<ExitStatus, SessionEnd> {
+    session.companions.arrivals = open_arrivals(run, &session.site, origin)?;
     if session.is_prompted && run.terminal.is_output {
         complain(run.faults, LINE_EDITING);
     }
@@ -187,6 +218,7 @@ fn converse_at<R: Changes + Catalogued + Drop, P: Platform>(
     options: &ShellOptions<'_>,
     site: R,
     companions: Companions,
+    origin: Origin<'_>,
     after: Vec<u8>,
 ) -> Result<ExitStatus, SessionEnd> {
     let access = access_of(run, options, companions.mark());
@@ -201,7 +233,7 @@ fn converse_at<R: Changes + Catalogued + Drop, P: Platform>(
                 inputs,
                 is_prompted,
             );
-            hold(run, &mut session, options.keeps_going)
+            hold(run, &mut session, origin, options.keeps_going)
         }
         Err(error) => Err(SessionEnd::from(error)),
     }
@@ -217,7 +249,7 @@ fn begin_with<R: Changes + Catalogued + Drop, P: Platform>(
     after: Vec<u8>,
 ) -> ExitStatus {
     let ended = match report_found(run, &site, &companions.alarms, origin) {
-        Ok(()) => converse_at(run, options, site, companions, after),
+        Ok(()) => converse_at(run, options, site, companions, origin, after),
         Err(error) => Err(SessionEnd::from(error)),
     };
     end(ended, run.faults)

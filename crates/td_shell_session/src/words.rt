@@ -52,21 +52,14 @@ fn typed_option<'a>(alloc: Global) -> Arg<'a> {
         .action(ArgAction::Append)
 }
 
-fn keep_going_flag<'a>(alloc: Global) -> Arg<'a> {
-    flag(
-        alloc,
-        "keep-going",
-        "Ends with status 0 though a fault was answered",
-    )
-}
-
 // Adds the options of a conversation.
 fn with_typed<'a>(alloc: Global, command: Command<'a>) -> Result<Command<'a>, AllocError> {
+    let help = "Ends with status 0 though a fault was answered";
     command
         .arg(read_only_flag(alloc)?)?
         .arg(memory_flag(alloc)?)?
         .arg(typed_option(alloc))?
-        .arg(keep_going_flag(alloc))
+        .arg(flag(alloc, "keep-going", help))
 }
 
 // The words that the program takes, with their help.
