@@ -18,6 +18,20 @@ WORDS = (
 KEYS = {"Enter": (13, "\r"), "Escape": (27, ""), "Tab": (9, ""), "ArrowDown": (40, ""), "ArrowUp": (38, "")}
 CONTROL = 2
 PATIENCE = 60
+# Scrolls to a node, notes from now on whether a click comes to one that fits, and says where the node's middle is.
+WATCH_CLICKS = """(node => {{
+  if (!node) return null;
+  node.scrollIntoView({{ block: 'nearest' }});
+  const box = node.getBoundingClientRect();
+  window.hasClicked = false;
+  window.fitsClick = it => !it.disabled{words};
+  if (!window.onClick) addEventListener('click', window.onClick = ({{ target }}) => {{
+    const nodes = [...document.querySelectorAll(window.clickSelector)].filter(window.fitsClick);
+    window.hasClicked = window.hasClicked || nodes.some(it => it.contains(target));
+  }}, true);
+  window.clickSelector = {selector};
+  return {{ x: box.x + box.width / 2, y: box.y + box.height / 2 }};
+}})"""
 
 
 def path_of_browser():
@@ -161,15 +175,25 @@ class Page:
         return self.js(f"document.querySelectorAll({json.dumps(selector)}).length")
 
     def click(self, selector, has=None):
-        """Clicks what is visible of a selector, and has these words."""
+        """Clicks what is visible of a selector, and has these words.
+
+        It is clicked again if it moved or was drawn anew between the look for it and the click, so that the click came
+        to nothing that fits.
+        """
         words = f" && it.textContent.includes({json.dumps(has)})" if has else ""
         found = (f"[...document.querySelectorAll({json.dumps(selector)})]"
                  f".find(it => it.offsetParent !== null && !it.disabled{words})")
-        self.wait(f"{found} !== undefined")
-        self.js(f"{found}.scrollIntoView({{ block: 'nearest' }})")
-        x, y = self.js(f"(box => [box.x + box.width / 2, box.y + box.height / 2])({found}.getBoundingClientRect())")
-        for kind in ("mousePressed", "mouseReleased"):
-            self.do("Input.dispatchMouseEvent", type=kind, x=x, y=y, button="left", clickCount=1)
+        end = time.monotonic() + PATIENCE
+        while time.monotonic() < end:
+            self.wait(f"{found} !== undefined")
+            point = self.js(f"{WATCH_CLICKS.format(selector=json.dumps(selector), words=words)}({found})")
+            if point is None:
+                continue
+            for kind in ("mousePressed", "mouseReleased"):
+                self.do("Input.dispatchMouseEvent", type=kind, **point, button="left", clickCount=1)
+            if self.js("window.hasClicked"):
+                return
+        raise TimeoutError(f"no click came to {selector} {has or ''}")
 
     def key(self, name, modifiers=0):
         code, text = KEYS.get(name, (ord(name.upper()[0]), name))

@@ -43,6 +43,9 @@ const bar = (...children) => div('bar', ...children);
 const note = (kind, ...children) => div('note ' + kind, ...children);
 const gap = () => span('grow');
 const details = (words, ...children) => el('details', {}, el('summary', {}, words), ...children);
+// A sign, with what it means in words.
+const sign = (mark, words, kind) =>
+  el('span', { class: kind, title: words, role: 'img', 'aria-label': '(' + words + ')' }, mark);
 const tableOf = (head, body) => div('wide', el('table', {}, el('thead', {}, el('tr', {}, head)), body));
 const selectOf = (label, options) =>
   el('select', { 'aria-label': label }, options.map(([value, words]) => el('option', { value }, words)));
@@ -52,7 +55,7 @@ function searchBox(label, value, search) {
   let timer = 0;
   box.oninput = () => {
     clearTimeout(timer);
-    timer = setTimeout(() => search(box.value.trim()), 120);
+    timer = setTimeout(() => search(box.value.trim()), 80);
   };
   return box;
 }
@@ -70,6 +73,7 @@ function duration(seconds) {
   return seconds < 172800 ? Math.round(seconds / 3600) + ' h' : Math.round(seconds / 86400) + ' days';
 }
 const ago = seconds => seconds < 60 ? 'just now' : duration(seconds) + ' ago';
+const dateInWords = time => new Date(time).toLocaleString([], { dateStyle: 'short', timeStyle: 'short' });
 const timeOfDay = time => new Date(time).toLocaleTimeString([], { hour: '2-digit', minute: '2-digit' });
 const pause = milliseconds => new Promise(done => setTimeout(done, milliseconds));
 

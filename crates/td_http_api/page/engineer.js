@@ -1,7 +1,7 @@
 // The engineer's box: queries, statements, refused statements, and the script.
 
-// A statement is edited without the comment of its key, since it gets a key of its own.
-const withoutKey = text => text.replace(/^\/\* [0-9a-f]{16} \*\/ /, '');
+// A statement is edited without the comments of its key and of the server, since it gets others.
+const withoutKey = text => text.replace(/^(\/\* ([0-9a-f]{16}|by [^]*?) \*\/ )+/, '');
 
 class Box {
   constructor(text) {
@@ -81,16 +81,17 @@ class Box {
   }
 }
 function refusedCard(box, entry) {
-  return card(entry, '', span('bad', entry.reason), button('Change', () => box.edit(entry.text)),
-    pre('', cut(entry.text, 2000)));
+  return card(entry, '', span('bad', entry.reason),
+    mayWrite() ? button('Change', () => box.edit(entry.text)) : '', pre('', cut(entry.text, 2000)));
 }
 function showEngineer(_, params) {
   const box = new Box(params.get('text')), script = pre(''), refused = div('');
   showHead('Query or statement', 'Tutorial D. A statement ends with a semicolon.').append(...box.nodes(),
     details('Refused statements', refused), details('Script', script));
-  const refresh = () => redraw(refused, state.refused.slice(-200).reverse().map(entry => refusedCard(box, entry)));
+  const refresh = async () =>
+    redraw(refused, (await refusedEntries()).slice(-200).reverse().map(entry => refusedCard(box, entry)));
   state.view = { path: 'engineer', refresh };
-  refresh();
+  refresh().catch(toastFault);
   box.text.focus({ preventScroll: true });
   return call('/api/script').then(told => put(script, told.script));
 }

@@ -36,17 +36,21 @@ function wishInWords(text) {
 const withoutComments = text => text.replace(/^\s*(\/\*[^]*?\*\/\s*)*/, '');
 const entryInWords = entry =>
   entry.changed && entry.changed.length ? entry.changed.map(changeInWords).join(' · ') : wishInWords(entry.text);
-const writer = entry => entry.author || 'site ' + siteOf(entry.stamp);
+const CONFIRMED = 'The server knew by the token who wrote this';
+// Who wrote an entry, with a mark if a server knew that.
+const writer = ({ author, confirmed, stamp }) => [cut(author || 'site ' + siteOf(stamp), 40),
+  confirmed ? sign(' ✓', CONFIRMED, 'good') : ''];
 
-const WHEN = { dateStyle: 'short', timeStyle: 'short' };
 // Begins a page, and returns what its content goes into.
 function showHead(words, about) {
   const holder = div('');
   draw(main, el('h2', {}, words), about ? para('quiet', about) : '', holder);
   return holder;
 }
-// Draws cards anew: what was open stays open, and the focus stays at its button.
+// Draws cards anew if they differ: what was open stays open, and the focus stays at its button.
 function redraw(holder, cards) {
+  const wordsOf = nodes => json([...nodes].map(node => node.textContent));
+  if (wordsOf(cards) === wordsOf(holder.childNodes)) return;
   const stampOf = node => node.closest('[data-at]') && node.closest('[data-at]').dataset.at;
   const open = new Set([...holder.querySelectorAll('details[open]')].map(stampOf));
   const controls = card => [...card.querySelectorAll('button, summary')];
@@ -58,9 +62,10 @@ function redraw(holder, cards) {
     if (at === card.dataset.at && controls(card)[index]) controls(card)[index].focus({ preventScroll: true });
   }
 }
+const cameInWords = ({ came }) => came ? dateInWords(came * 1000) + ' · ' : '';
 function card(entry, kind, title, extra, ...children) {
-  const when = entry.came ? new Date(entry.came * 1000).toLocaleString([], WHEN) + ' · ' : '';
-  const top = div('top', title, span('', extra, ' ', span('quiet', entry.failure ? '' : when + entry.stamp)));
+  const when = entry.failure ? '' : cameInWords(entry) + entry.stamp;
+  const top = div('top', title, span('', extra, ' ', span('quiet', when)));
   return el('section', { class: 'card ' + kind, 'data-at': entry.stamp }, top, children);
 }
 const statementOf = entry => details('For engineers', pre('', cut(entry.text, 2000)));
@@ -79,14 +84,13 @@ async function showLook() {
 const firstNow = changes => changes.flatMap(changedRows).find(row => row.now);
 // What was wanted, and what is there now.
 async function wishAndFact(entry) {
-  if (entry.now && entry.now.length) {
-    const [was, now] = [firstNow(entry.was), firstNow(entry.now)];
-    if (was && now && was.relvar === now.relvar) return { relvar: was.relvar, wanted: was.now, now: now.now };
-  }
+  const { relvar: other, now: there } = entry.was && firstNow(entry.changed) || {};
+  const was = other && readChange(other, entry.was);
+  if (was) return { relvar: other, wanted: was, now: there };
   const wish = readStatement(state.schema.relvars, entry.text);
   if (!wish) return {};
   const { relvar } = wish, wanted = wish.does === 'add' ? wish.rows[0] : { ...wish.key, ...wish.values };
-  const keys = wish.does === 'add' && /^breaks key/.test(entry.reason || '') ? relvar.keys : [keyOf(relvar)];
+  const keys = wish.does === 'add' && isKey(entry.breaks) ? relvar.keys : [keyOf(relvar)];
   for (const key of keys) {
     const now = await firstWhere(relvar, { ...wanted, ...wish.key }, key).catch(() => null);
     if (now) return { relvar, wish, wanted, now };
@@ -102,20 +106,21 @@ function enterAgain(entry, { wish, relvar, wanted, now }) {
 }
 async function lookCard(entry) {
   const found = await wishAndFact(entry), { relvar, wish, wanted, now } = found, isOther = !entry.reason;
-  const isElsewhere = isOther && entry.now.length > 0;
+  const isElsewhere = isOther && entry.changed.length > 0;
   const title = isElsewhere ? 'Saved, but otherwise than you saw'
     : isOther ? 'It has no effect any more' : entry.failure ? 'Not saved' : 'Not saved any more';
   const words = isElsewhere ? 'Another site was first, and the entry took what it says for that case.'
     : isOther ? 'Another site changed it first.'
-      : entry.failure || 'Another site was first. ' + reasonInWords(entry.reason);
+      : entry.failure || 'Another site was first. ' + reasonInWords(entry.reason, entry.breaks);
   const columns = relvar ? el('div', { class: 'two' },
     div('', el('h4', {}, isElsewhere ? 'As you saw it' : 'Wanted'), rowList(relvar, wanted)),
     div('', el('h4', {}, 'There now'), now ? rowList(relvar, now, wanted) : para('quiet', 'nothing'))) : '';
-  const leave = () => settle(entry.stamp).catch(toastFault);
-  const author = entry.author ? entry.author + ' · ' : '';
+  const leave = () => settle(entry.stamp).catch(toastFault), again = wish && wish.does === 'remove'
+    ? 'Look at it' : 'Enter again with changes';
+  const author = entry.author ? [writer(entry), ' · '] : '';
   return card(entry, 'hot', el('b', {}, title), author, para('bad', words), columns, statementOf(entry),
-    bar(isElsewhere ? '' : button(wish && wish.does === 'remove' ? 'Look at it' : 'Enter again with changes',
-      () => enterAgain(entry, found), 'main'), button(isElsewhere ? 'I have seen it' : 'Leave it', leave)));
+    bar(isElsewhere || !mayWrite() ? '' : button(again, () => enterAgain(entry, found), 'main'),
+      mayWrite() || entry.failure ? button(isElsewhere ? 'I have seen it' : 'Leave it', leave) : ''));
 }
 
 // ---- Own entries, and all
@@ -124,21 +129,23 @@ function entryCard(entry, extra) {
   const isDone = !entry.reason, changed = entry.changed || [];
   const tag = !isDone ? span('tag bad', 'refused')
     : changed.length ? '' : span('tag', 'changed nothing');
-  const title = el('span', { dir: 'auto' }, el('b', {}, cut(writer(entry), 40)), ' ', cut(entryInWords(entry), 240));
-  return card(entry, '', title, [extra || '', ' ', tag], isDone ? '' : para('bad', reasonInWords(entry.reason)),
-    statementOf(entry));
+  const title = el('span', { dir: 'auto' }, el('b', {}, writer(entry)), ' ', cut(entryInWords(entry), 240));
+  return card(entry, '', title, [extra || '', ' ', tag], isDone ? ''
+    : para('bad', reasonInWords(entry.reason, entry.breaks)), statementOf(entry));
 }
-const waitingCard = entry => card({}, '', wishInWords(entry.text), span('tag warn', 'waits for the server'));
+const waitingCard = ({ text, failure }) => card({}, '', wishInWords(text),
+  span('tag warn', failure ? 'not saved' : 'waits for the server'));
 const placeTag = entry =>
   entry.number > sentNumber() ? span('tag warn', 'here only') : span('tag good', 'at another site');
 async function ownEntries() {
   const isOwn = entry => siteOf(entry.stamp) === state.site.site;
-  if (state.author) return (await log({ author: state.author, last: 200 })).filter(isOwn);
-  const oldest = mine.map(entry => entry.stamp).sort(isEarlier)[0], stamps = new Set(mine.map(entry => entry.stamp));
-  return oldest ? (await log({ after: stampBefore(oldest) })).filter(entry => stamps.has(entry.stamp)) : [];
+  const author = authorName();
+  if (author) return (await log({ author, last: 200 })).filter(isOwn);
+  const [oldest] = [...mine].sort(isEarlier);
+  return oldest ? (await log({ after: stampBefore(oldest) })).filter(entry => mine.includes(entry.stamp)) : [];
 }
 async function showMine() {
-  const holder = showHead('My entries', state.author ? 'What ' + state.author + ' entered at this site, the last first.'
+  const holder = showHead('My entries', authorName() ? 'What ' + authorName() + ' entered at this site, the last first.'
     : 'What was entered in this tab. Give your name (above) to find what you entered before.');
   let own = [], sent = 0;
   const paint = () => redraw(holder, outbox.length || own.length ? [...outbox.map(waitingCard),
@@ -157,7 +164,7 @@ async function showMine() {
 }
 const hasWords = (entry, text) => json(entry).toLowerCase().includes(text.toLowerCase());
 async function foundEntries(text, isRefused, last) {
-  if (isRefused) return state.refused.filter(entry => hasWords(entry, text)).slice(-last);
+  if (isRefused) return (await refusedEntries()).filter(entry => hasWords(entry, text)).slice(-last);
   return log(text ? { contains: text, last } : { last });
 }
 function showLog() {
@@ -198,7 +205,7 @@ function historyCard(relvar, row, entry) {
   const isIt = found => hasKey(found.was) || hasKey(found.now);
   const { was, now } = rows.find(isIt) || {};
   const title = was ? now ? 'Changed' : 'Deleted' : now ? 'Added' : 'Changed with others';
-  return card(entry, '', el('b', {}, title), (entry.author ? entry.author + ', ' : '') + 'site ' + siteOf(entry.stamp),
+  return card(entry, '', el('b', {}, title), [writer(entry), entry.author ? ', site ' + siteOf(entry.stamp) : ''],
     was && now ? changeList(relvar, was, now) : now ? rowList(relvar, now) : '');
 }
 function historyOf(relvar, row) {
@@ -209,20 +216,46 @@ function historyOf(relvar, row) {
   }).catch(fault => put(holder, fault.message));
   return holder;
 }
+// The last entry, in the order in which they count, that had come by a time; else when the first one came of which that
+// is known.
+async function lastBy(seconds, filter) {
+  let first = Infinity;
+  for (let before = {};;) {
+    const part = await log({ ...filter, ...before, last: 1000 }), known = part.filter(({ came }) => came !== null);
+    const last = known.findLast(({ came }) => came <= seconds);
+    if (last || !part.length) return { last, first };
+    first = Math.min(first, ...known.map(({ came }) => came));
+    before = { before: part[0].stamp };
+  }
+}
 async function showPast(name) {
   const relvar = relvarNamed(name);
   if (!relvar) return showNothing('There is no list of this name.');
   const holder = showHead('As it was: ' + plain(name),
-    'After an entry, by what is known today: an entry that comes late counts too.');
-  const at = stamp => route(listPath(name), new URLSearchParams({ at: stamp }));
+    'At a time, or after an entry, by what is known today: an entry that comes late counts too.');
+  const of = relvar.isBase ? { relvar: name } : {}, status = el('span', { class: 'quiet', role: 'status' });
+  const at = (stamp, t) => route(listPath(name), new URLSearchParams({ at: stamp, ...t ? { t } : {} }));
+  const time = el('input', { type: 'datetime-local', 'aria-label': 'Date and time', id: 'time' }), now = new Date();
+  // (the hour that it is, since this input has the time of the place)
+  now.setMinutes(-now.getTimezoneOffset(), 0, 0);
+  time.value = now.toISOString().slice(0, 16);
+  const look = async () => {
+    if (!time.value) return put(status, 'Choose a date and a time.');
+    put(status, 'Looking…');
+    const { last, first } = await lastBy(new Date(time.value) / 1000, of);
+    if (last) location.hash = at(last.stamp, time.value);
+    else put(status, first < Infinity ? 'It is known since ' + dateInWords(first * 1000) + ' when entries came.'
+      : 'It is not known of any entry when it came.');
+  };
   const box = searchBox('Search the entries', '', () => paint());
   state.view = { path: 'past/' + name };
   const paint = async () => {
-    const of = relvar.isBase ? { relvar: name } : {}, text = box.value.trim();
-    const entries = (await log({ last: 60, ...of, ...text ? { contains: text } : {} })).filter(entry => !entry.reason);
-    draw(holder, entries.reverse().map(entry => bar(el('a', { class: 'button', href: at(entry.stamp) },
-      entry.stamp), span('', cut(writer(entry), 40) + ' ' + cut(entryInWords(entry), 140)))));
+    const text = box.value.trim(), contains = text ? { contains: text } : {};
+    const entries = (await log({ last: 60, ...of, ...contains })).filter(entry => !entry.reason);
+    draw(holder, entries.reverse().map(entry => bar(el('a', { class: 'button', href: at(entry.stamp) }, entry.stamp),
+      span('', span('quiet', cameInWords(entry)), writer(entry), ' ', cut(entryInWords(entry), 140)))));
   };
-  holder.before(bar(box));
+  holder.before(bar(time, button('Show', () => look().catch(fault => put(status, fault.message)), 'main'), status),
+    bar(box));
   return paint();
 }

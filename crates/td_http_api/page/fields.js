@@ -123,15 +123,15 @@ function keyMark(relvar, name) {
   if (!key) return '';
   const others = key.filter(other => other !== name).map(inSentence);
   const words = others.length ? 'Only once together with ' + listed(others) : 'Only once in this list';
-  return el('span', { class: 'mark', title: words, role: 'img', 'aria-label': '(' + words + ')' }, ' ◆');
+  return sign(' ◆', words, 'mark');
 }
 
 // The choices of a field that refers to another list: what is free first, if the script defines that.
 async function choicesOf(reference, name, typed) {
   const from = relvarNamed(reference.free || reference.to);
-  const contains = typed && isText(from.types.get(name)) && !isSmall(from) ? { contains: typed } : {};
-  const count = isSmall(from) ? SMALL : 300;
-  const { rows } = await rowsOf(from.name, { order: [[name, 'up']], count, ...contains });
+  const isLong = !isSmall(from), contains = typed && isText(from.types.get(name)) && isLong ? { contains: typed } : {};
+  const order = from.count > ORDERED ? {} : { order: [[name, 'up']] };
+  const { rows } = await rowsOf(from.name, { count: isLong ? 50 : SMALL, ...order, ...contains });
   return rows.map(row => ({ cell: row[name], words: othersInWords(from, row, name) }));
 }
 const hasChoice = ({ cell, words }, typed) => (cell + ' ' + words).toLowerCase().includes(typed.toLowerCase());

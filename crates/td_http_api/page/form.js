@@ -34,19 +34,27 @@ function changeList(relvar, was, now) {
     el('dt', {}, plain(name)), el('dd', {}, cut(valueInWords(relvar, was, name), 80), ' → ',
       span('differs', cut(valueInWords(relvar, now, name), 80)))]));
 }
-function showRow(relvar, row) {
+function showRow(relvar, row, isPast) {
   state.form = { id: relvar.name + json(keyOf(relvar).map(name => row[name])), back: focused(),
     refresh: () => {} };
   const from = relvar.isBase || !relvar.like ? '' : para('quiet', 'This list follows from others. Change it at ',
     link(listPath(relvar.like), plain(relvar.like), 'quiet'), '.');
-  showPanel(panelHead(plain(relvar.name)), rowList(relvar, row), from);
+  showPanel(panelHead(plain(relvar.name)), rowList(relvar, row), from,
+    relvar.isBase && !isPast ? historyDetails(relvar, row) : '');
   byId('close').focus();
+}
+function historyDetails(relvar, row) {
+  const node = details('History');
+  node.id = 'history';
+  node.ontoggle = () => { if (node.open && node.children.length === 1) node.append(historyOf(relvar, row)); };
+  return node;
 }
 // Opens the form of a row, or of a new entry if there is none. `more` may have `given` values, what is `typed`, `words`
 // above it, the entry that it `replaces`, and `at` of a list as it was.
 function openForm(relvar, row, more) {
   if (!mayLeave()) return;
-  if (!relvar.isBase || more && more.at) return showRow(relvar, row);
+  const isPast = more && more.at;
+  if (!relvar.isBase || isPast || !mayWrite()) return row && showRow(relvar, row, isPast);
   state.form = new Form(relvar, row, more || {});
   state.form.show();
 }
@@ -107,15 +115,7 @@ class Form {
       onkeydown: event => { if (event.key === 'Enter' && (event.ctrlKey || event.metaKey)) this.submitted(event); } },
     words ? note('warn', words) : '', this.fields.map(field => field.node), conditions, this.note,
     div('bar acts', this.save, old || replaces ? '' : next, gap(), old ? this.remove : ''),
-    old ? this.history() : '', details('For engineers', this.code));
-  }
-  history() {
-    const node = details('History');
-    node.id = 'history';
-    node.ontoggle = () => {
-      if (node.open && node.children.length === 1) node.append(historyOf(this.relvar, this.old));
-    };
-    return node;
+    old ? historyDetails(this.relvar, old) : '', details('For engineers', this.code));
   }
   show() {
     showPanel(panelHead((this.old ? '' : 'Add: ') + plain(this.relvar.name)), this.node);
@@ -126,7 +126,8 @@ class Form {
   changed() {
     const row = this.values(false);
     const isLike = row && this.old && !updateOf(this.relvar, this.old, row);
-    put(this.code, row ? isLike ? 'Nothing is changed.' : this.statement(row) : 'Not all fields are filled in.');
+    put(this.code, !row ? 'Not all fields are filled in.'
+      : isLike ? 'Nothing is changed.' : signed(this.statement(row)));
     const { old, more } = this, draft = { relvar: this.relvar.name, old, typed: this.typed(), replaces: more.replaces };
     this.isTouched = !isSame(draft.typed, this.typedFirst);
     keep('draft', this.isTouched || more.given ? draft : null);
@@ -137,6 +138,7 @@ class Form {
   tellAt(name, words) {
     this.field(name).tell(words);
     this.field(name).focus();
+    return true;
   }
 
   // ---- What is entered
@@ -158,11 +160,10 @@ class Form {
   }
   statement(row) {
     const { relvar, old } = this, isOn = condition => condition && condition.input.checked;
-    const author = authorComment(state.author);
-    if (old) return author + this.onlyIf(updateOf(relvar, old, row));
-    if (isOn(this.unless)) return author + insertionUnless(relvar, row, this.more.replaces.row);
-    if (isOn(this.orNext)) return author + insertionOrNext(relvar, row, this.free.names[0], this.free.free);
-    return author + insertionOf(relvar, row);
+    if (old) return this.onlyIf(updateOf(relvar, old, row));
+    if (isOn(this.unless)) return insertionUnless(relvar, row, this.more.replaces.row);
+    if (isOn(this.orNext)) return insertionOrNext(relvar, row, this.free.names[0], this.free.free);
+    return insertionOf(relvar, row);
   }
   onlyIf(statement) {
     return this.ifSame.input.checked ? onlyIfSeen(this.relvar, this.old, statement) : statement;
@@ -176,8 +177,7 @@ class Form {
     const row = this.values(true);
     if (!row) return;
     if (this.old && !updateOf(this.relvar, this.old, row)) return this.say('Nothing is changed.', 'warn');
-    if (state.author === null) await askName();
-    await this.enter(this.statement(row), row, () => this.check(row), isNext);
+    await this.enter(() => this.statement(row), row, isNext);
   }
   askDelete() {
     if (this.isSure) return this.doDelete();
@@ -189,40 +189,30 @@ class Form {
     }, 5000);
   }
   async doDelete() {
-    if (this.isSaving) return;
-    if (state.author === null) await askName();
-    const text = authorComment(state.author) + this.onlyIf(deletionOf(this.relvar, this.old));
-    await this.enter(text, this.old, () => this.checkDeletion(), false);
+    if (!this.isSaving) await this.enter(() => this.onlyIf(deletionOf(this.relvar, this.old)), this.old, false);
   }
-  async enter(text, row, check, isNext) {
+  async enter(statement, row, isNext) {
+    await needName();
+    const text = signed(statement());
     const way = this.old ? ', or take off the tick.' : '.';
     if (bytesOf(text) > LONGEST) return this.say('This entry is too long: shorten a field' + way);
     this.isSaving = this.save.disabled = true;
     draw(this.note);
     for (const field of this.fields) field.tell('');
     try {
-      if (await this.isFine(check)) await this.tellOutcome(await issue(text), row, check, isNext);
+      // A refused entry is kept for ever, at all sites, so it is tried before.
+      const tried = await tryOut(text), answer = tried.refused ? tried : await issue(text);
+      await (answer.refused ? this.explain(answer, row) : this.tellOutcome(answer, row, isNext));
     } catch (fault) {
       this.say(fault.message);
     }
     this.isSaving = this.save.disabled = false;
   }
-  // If the server is away nothing can be checked, and the entry waits.
-  async isFine(check) {
-    try {
-      return await check();
-    } catch (fault) {
-      if (fault instanceof Away) return true;
-      throw fault;
-    }
-  }
-  async tellOutcome(answer, row, check, isNext) {
+  async tellOutcome(answer, row, isNext) {
     if (answer.waits) {
       toast('Nothing can be saved now. Your entry is kept in this tab, and is sent later.');
       return this.done(isNext);
     }
-    // What was refused is found by the check again, now that another entry was faster.
-    if (answer.refused) return await check() ? this.say(reasonInWords(answer.refused)) : null;
     if (!answer.changed.length) return this.tellNothing();
     if (this.more.replaces) await settle(this.more.replaces.stamp).catch(toastFault);
     toast(this.otherWords(answer.changed, row) || (this.old ? 'Saved.' : 'Added.'));
@@ -249,71 +239,54 @@ class Form {
     if (isNext) openForm(this.relvar, null);
   }
 
-  // ---- What would be refused is said before: a refused entry is kept for ever, at all sites
+  // ---- Why an entry is refused: beside the field if it is of one
 
-  async check(row) {
-    return await this.checkValues(row) && await this.checkKeys(row) && await this.checkReferences(row)
-      && this.checkRules('( ' + this.others() + ' ) UNION ' + relationOf([rowText(this.relvar, row)]));
+  async explain({ refused, breaks }, row) {
+    const isTold = !breaks ? await this.explainValues(row) : isKey(breaks) ? await this.explainKey(row)
+      : await this.explainRule(constraintNamed(breaks.name), row);
+    if (!isTold) this.say(reasonInWords(refused, breaks));
   }
-  others() {
-    const { relvar, old } = this;
-    return old ? where(relvar, 'NOT ( ' + equalAt(relvar, old, keyOf(relvar)) + ' )') : relvar.name;
-  }
-  async checkValues(row) {
+  async explainValues(row) {
     for (const { name, defined, isLiteral } of this.fields) {
       const words = defined || isLiteral ? await unfitWords(name, defined, row[name]) : '';
-      if (words) this.tellAt(name, words);
-      if (words) return false;
+      if (words) return this.tellAt(name, words);
     }
-    return true;
+    return false;
   }
-  async checkKeys(row) {
+  async explainKey(row) {
     const { relvar, old } = this;
     for (const key of relvar.keys) {
       const isAsBefore = old && !key.some(name => differsAt(relvar, old, row, name));
       const takesNext = this.orNext && this.orNext.input.checked && isSame(key, this.free.names);
       const there = isAsBefore || takesNext ? null : await firstWhere(relvar, row, key);
-      if (there) this.tellKey(key, there);
-      if (there) return false;
+      if (there) return this.tellKey(key, there);
     }
-    return true;
+    return false;
   }
   tellKey(key, there) {
     const [first] = key.length ? key : namesOf(this.relvar);
     this.tellAt(first, existsInWords(this.relvar, there, key));
     this.field(first).fault.append(' ', button('Open it', () => openForm(this.relvar, there), 'plain'));
-  }
-  async checkReferences(row) {
-    for (const reference of this.relvar.references) {
-      const parent = relvarNamed(reference.to), there = await firstWhere(parent, row, reference.names);
-      if (!there) this.tellAt(reference.names[0], missesInWords(reference, this.relvar, row));
-      if (!there) return false;
-    }
     return true;
   }
-  async checkRules(value) {
-    const broken = isSmall(this.relvar) ? await brokenConstraint(this.relvar, value) : null;
-    if (broken) this.tellRule(broken);
-    return !broken;
-  }
-  tellRule(constraint) {
-    const words = wordsOf(constraint.text), field = this.fields.find(({ name }) => words.includes(name));
-    if (field) this.tellAt(field.name, ruleNotAllowed(constraint));
-    this.say(ruleNotAllowed(constraint), 'bad', details('The rule', pre('', constraint.text)));
-  }
-  async checkDeletion() {
-    const { relvar, old } = this;
-    for (const { from, names } of relvar.referents) {
-      const child = relvarNamed(from);
-      const count = await valueOf('COUNT ( ' + where(child, equalAt(relvar, old, names)) + ' )');
-      if (count) {
-        const filters = names.map(name => name + ':is:' + old[name]);
-        this.say(counted(count, 'entry', 'entries') + ' in “' + plain(from) + '” need this one. Delete '
-          + (count === 1 ? 'it' : 'them') + ' first. ', 'bad', el('a', { href: linkTo(from, filters) }, 'Show'));
-        return false;
-      }
+  explainRule(constraint, row) {
+    const { reference, text } = constraint, { name } = this.relvar;
+    if (reference && reference.from === name) {
+      return this.tellAt(reference.names[0], missesInWords(reference, this.relvar, row));
     }
-    return this.checkRules(this.others());
+    if (reference && reference.to === name) return this.tellNeed(reference);
+    const words = wordsOf(text), field = this.fields.find(other => words.includes(other.name));
+    if (field) this.tellAt(field.name, ruleNotAllowed(constraint));
+    this.say(ruleNotAllowed(constraint), 'bad', details('The rule', pre('', text)));
+    return true;
+  }
+  // Other entries refer to this one.
+  async tellNeed({ from, names }) {
+    const { relvar, old } = this, filters = names.map(name => name + ':is:' + old[name]);
+    const count = await valueOf('COUNT ( ' + where(relvarNamed(from), equalAt(relvar, old, names)) + ' )');
+    this.say(counted(count, 'entry', 'entries') + ' in “' + plain(from) + '” need' + (count === 1 ? 's' : '')
+      + ' this one as it is. ', 'bad', el('a', { href: linkTo(from, filters) }, 'Show'));
+    return true;
   }
 
   // ---- A row that is changed while its form is open
@@ -347,28 +320,4 @@ async function unfitWords(name, type, literal) {
   }
   const rule = ruleInWords(type);
   return plain(name) + ' is not allowed' + (rule ? ': it must be ' + rule + '.' : '.');
-}
-// The names that a constraint and the virtual relvars in it use.
-function namesUsed(constraint) {
-  const used = new Set(constraint.relvars);
-  // (a virtual relvar names earlier ones alone)
-  for (const { name, text } of [...state.schema.virtual].reverse()) {
-    if (used.has(name)) for (const word of wordsOf(text)) used.add(word);
-  }
-  return used;
-}
-// The first constraint, but for references from here, that a value of the relvar would break.
-async function brokenConstraint(relvar, value) {
-  for (const constraint of state.schema.constraints) {
-    const used = namesUsed(constraint), { reference } = constraint;
-    if (!used.has(relvar.name) || reference && reference.from === relvar.name) continue;
-    const virtual = state.schema.virtual.filter(({ name }) => used.has(name));
-    const values = [relvar.name + ' := ' + value].concat(virtual.map(({ name, text }) => name + ' := ' + text));
-    const answer = await query('WITH ( ' + values.join(', ') + ' ) : ' + constraint.text).catch(fault => {
-      if (fault instanceof Away) throw fault;
-      return {};
-    });
-    if (answer.value === false || answer.raised) return constraint;
-  }
-  return null;
 }

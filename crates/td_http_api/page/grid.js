@@ -66,7 +66,6 @@ class Grid {
   constructor(relvar, params) {
     this.relvar = relvar;
     this.params = params;
-    this.isSmall = isSmall(relvar);
     this.columns = filterColumns(relvar);
     this.filters = params.getAll('f').map(text => readFilter(this.columns, text)).filter(Boolean);
     this.search = params.get('q') || '';
@@ -76,18 +75,27 @@ class Grid {
     this.at = params.get('at') || '';
     this.shown = null;
     this.rowsShown = [];
-    this.view = { path: 'list/' + relvar.name, refresh: () => this.fill(), paintOpen: () => this.paintOpen(),
-      isOtherNow: () => isSmall(relvar) !== this.isSmall };
+    this.view = { path: 'list/' + relvar.name, refresh: () => this.fill(), paintOpen: () => this.paintOpen() };
   }
 
-  // Goes to the same list with other parameters: from the first page on, if no page is among them.
-  set(changes, replaces) {
+  // The way to the same list with other parameters: from the first page on, if no page is among them.
+  route(changes) {
     const params = new URLSearchParams(this.params);
     for (const [name, values] of Object.entries({ p: '', ...changes })) {
       params.delete(name);
       for (const value of [values].flat()) if (value !== '') params.append(name, value);
     }
-    go(listPath(this.relvar.name), params, replaces);
+    return route(listPath(this.relvar.name), this.params = params);
+  }
+  set(changes) {
+    location.hash = this.route(changes);
+  }
+  find(text) {
+    this.search = text;
+    this.page = 0;
+    this.shown = null;
+    history.replaceState(null, '', this.route({ q: text }));
+    this.fill().catch(fault => put(this.status, fault.message));
   }
   goToPage(page) {
     this.set({ p: page || '' });
@@ -115,7 +123,7 @@ class Grid {
     return namesOf(this.relvar).some(name => valueInWords(this.relvar, row, name).toLowerCase().includes(searched));
   }
   async rows(first, count) {
-    if (this.isSmall) {
+    if (isSmall(this.relvar)) {
       const type = this.relvar.types.get(this.order), way = this.isDown ? -1 : 1;
       const found = (await this.all()).filter(row => this.isFound(row));
       found.sort((one, other) => way * compareCells(type, one[this.order], other[this.order]));
@@ -130,14 +138,15 @@ class Grid {
 
   show() {
     const { relvar } = this;
-    this.canAdd = relvar.isBase && !this.at;
+    this.canAdd = relvar.isBase && !this.at && mayWrite();
     this.status = el('span', { class: 'quiet', role: 'status' });
     this.empty = el('div', { class: 'empty', hidden: true });
     this.body = el('tbody', { onclick: event => this.openAt(event), onkeydown: event => this.moveFrom(event) });
     this.box = el('div', { class: 'wide grid cards', tabindex: '-1' }, el('table', {}, this.head(), this.body));
     this.filterBar = this.makeFilterBar();
-    draw(main, this.titleBar(), this.pastNote(), this.toolBar(), this.filterBar, this.chips(),
-      this.paperLine(), this.box, this.empty, this.pageBar(), this.actBar());
+    this.paper = para('paper');
+    draw(main, this.titleBar(), this.pastNote(), this.toolBar(), this.filterBar, this.chips(), this.paper, this.box,
+      this.empty, this.pageBar(), this.actBar());
     state.view = this.view;
     this.box.classList.add('busy');
     return this.fill().catch(fault => put(this.status, fault.message)).finally(() => this.box.classList.remove('busy'));
@@ -150,19 +159,23 @@ class Grid {
   add() {
     openForm(this.relvar, null);
   }
+  pastWords() {
+    const time = this.params.get('t');
+    return 'As it was ' + (time ? 'on ' + dateInWords(time) + ', ' : '') + 'just after ' + this.at;
+  }
   pastNote() {
     if (!this.at) return '';
-    return note('warn', 'As it was just after ' + this.at + ', by what is known today. Nothing can be changed here. ',
-      button('Back to now', () => this.set({ at: '' }), 'plain'));
+    return note('warn', this.pastWords() + ', by what is known today. Nothing can be changed here. ',
+      button('Back to now', () => this.set({ at: '', t: '' }), 'plain'));
   }
   toolBar() {
     return bar(this.searchBox(), button('Filter', () => this.toggleFilters(), '', { 'aria-controls': 'filters' }),
       this.orderChoice());
   }
   searchBox() {
-    const box = searchBox('Search in ' + plain(this.relvar.name), this.search, text => this.set({ q: text }, true));
+    const box = searchBox('Search in ' + plain(this.relvar.name), this.search, text => this.find(text));
     box.id = 'search';
-    if (!this.isSmall) box.placeholder = 'Search in texts';
+    if (!isSmall(this.relvar)) box.placeholder = 'Search in texts';
     box.onkeydown = event => {
       if (event.key !== 'ArrowDown' || !this.body.rows.length) return;
       event.preventDefault();
@@ -185,7 +198,7 @@ class Grid {
   actBar() {
     const { name, isBase } = this.relvar, path = encodeURIComponent(name);
     return bar(button('Print', () => this.print()), button('Download CSV', () => this.download()),
-      isBase ? link('upload/' + path, 'Upload CSV') : '', link('past/' + path, 'As it was'));
+      isBase && mayWrite() ? link('upload/' + path, 'Upload CSV') : '', link('past/' + path, 'As it was'));
   }
   toggleFilters() {
     this.filterBar.hidden = !this.filterBar.hidden;
@@ -210,12 +223,12 @@ class Grid {
       span('chip', filterWords(filter),
         button('✕', () => remove(filter), '', { 'aria-label': 'Remove this filter' }))));
   }
-  // Printed above the list.
-  paperLine() {
+  // What is printed above the list.
+  paperWords() {
     const parts = [plain(this.relvar.name), 'site ' + state.site.site, 'printed ' + new Date().toLocaleString()];
     if (this.search) parts.push('search ' + this.search);
-    if (this.at) parts.push('as it was just after ' + this.at);
-    return para('paper', parts.concat(this.filters.map(filterWords)).join(' · '));
+    if (this.at) parts.push(this.pastWords());
+    return parts.concat(this.filters.map(filterWords)).join(' · ');
   }
   pageBar() {
     this.back = button('‹ Back', () => this.goToPage(this.page - 1), '', { id: 'back', disabled: true });
@@ -244,11 +257,22 @@ class Grid {
     const cells = this.relvar.attributes.map((attribute, index) => this.cell(row, attribute, index));
     return el('tr', { 'data-id': this.idOf(row) }, cells);
   }
-  // Draws what changed: a row that is as it was stays, with the focus in it.
+  // Reads what is to be shown, one request at a time: an answer to what is no longer asked is dropped.
   async fill() {
-    const { total, rows } = await this.rows(this.page * PAGE, PAGE);
+    this.isStale = this.isFilling;
+    if (this.isFilling) return;
+    this.isFilling = true;
+    const found = await this.rows(this.page * PAGE, PAGE).catch(fault => ({ fault }));
+    this.isFilling = false;
+    if (this.isStale) return this.fill();
+    if (found.fault) throw found.fault;
+    return state.view === this.view && this.paint(found);
+  }
+  // Draws what changed: a row that is as it was stays, with the focus in it.
+  paint({ total, rows }) {
     const text = json([total, rows]);
-    if (state.view !== this.view || text === this.shown) return;
+    put(this.paper, this.paperWords());
+    if (text === this.shown) return;
     const old = new Map(this.rowsShown.map((row, index) => [json(row), this.body.rows[index]]));
     const id = hasFocus(this.body) ? focused().closest('tr').dataset.id : null;
     const lines = rows.map(row => old.get(json(row)) || this.line(row));
@@ -304,12 +328,13 @@ class Grid {
 
   async print() {
     const most = 2000, { total, rows } = await this.rows(0, most), was = [...this.body.childNodes];
-    const paper = main.querySelector('.paper'), words = paper.textContent;
-    if (total > rows.length) put(paper, words + ' · the first ' + number(rows.length) + ' of ' + number(total));
+    const words = this.paperWords();
+    const part = total > rows.length ? ' · the first ' + number(rows.length) + ' of ' + number(total) : '';
+    put(this.paper, words + part);
     draw(this.body, rows.map(row => this.line(row)));
     print();
     draw(this.body, was);
-    put(paper, words);
+    put(this.paper, words);
   }
   // What the list shows, all pages, in its order, in the form of `/api/relvars/R.csv`.
   async download() {

@@ -102,11 +102,9 @@ const rowText = (relvar, row) => tupleOf(relvar, row, namesOf(relvar));
 const relationOf = tuples => 'RELATION { ' + tuples.join(', ') + ' }';
 const where = (relvar, condition) => relvar.name + ' WHERE ' + condition;
 const whereEqual = (relvar, row, names) => where(relvar, equalAt(relvar, row, names));
-const authorComment = author => author ? '/* ' + author + ' */ ' : '';
 
-function insertionOf(relvar, row) {
-  return 'INSERT ' + relvar.name + ' ' + relationOf([rowText(relvar, row)]) + ';';
-}
+const insertionOf = (relvar, ...rows) =>
+  'INSERT ' + relvar.name + ' ' + relationOf(rows.map(row => rowText(relvar, row))) + ';';
 // An addition that takes another free value at one attribute if another tuple has this one.
 function insertionOrNext(relvar, row, name, free) {
   const pairs = namesOf(relvar).map(other =>
@@ -186,6 +184,13 @@ function readStatement(relvars, text) {
   } catch {
     return null;
   }
+}
+
+// The first row that came into a relvar by a change as `R - TUPLE { .. } + TUPLE { .. }`; null if there is none.
+function readChange(relvar, text) {
+  const source = new Source(text), at = source.end(1, '+', ';') + 1;
+  if (source.name(0) !== relvar.name || source.word(at) !== 'TUPLE') return null;
+  return readTuple(relvar, source, at, source.end(at + 2) + 1);
 }
 
 // ---- Stamps

@@ -49,7 +49,6 @@ function setMenu(isOpen) {
 function show() {
   if (!state.schema) return;
   const path = currentPath(), [kind, ...rest] = path.split('/'), was = state.view && state.view.path;
-  const cursor = focused().id === 'search' ? focused().selectionStart : -1;
   setMenu(false);
   const first = state.schema.bases[0] || state.schema.virtual[0];
   if (!kind && first) return go(listPath(first.name), null, true);
@@ -57,10 +56,7 @@ function show() {
   const page = PAGES.get(kind) || (() => showNothing('There is no such page.'));
   Promise.resolve(page(rest.join('/'), currentParams())).catch(toastFault);
   paintNav();
-  if (cursor >= 0 && byId('search')) {
-    byId('search').focus();
-    byId('search').setSelectionRange(cursor, cursor);
-  } else if (was !== path) main.scrollTop = 0;
+  if (was !== path) main.scrollTop = 0;
 }
 
 function pressKey(event) {
@@ -105,10 +101,11 @@ function openDraft() {
 }
 // What this tab knew before a reload is shown at once, also while the server is away.
 function showKnown() {
-  const known = kept('known', null);
+  const known = kept('shown', null);
   if (!known) return;
   takeSchema(known.schema, known.counts);
   state.site = { ...known.site, meetings: [], alarms: [] };
+  state.client = known.client;
 }
 async function start() {
   takeToken();

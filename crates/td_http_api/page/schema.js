@@ -25,7 +25,7 @@ function makeRelvar(told) {
   const attributes = order.map(name => ({ name, type: types.get(name) }));
   const isBase = told.kind === 'base';
   return { name: told.name, isBase, attributes, types, sent, keys: told.keys, text: told.text || '', references: [],
-    referents: [], count: null, like: null };
+    count: null, like: null };
 }
 // A virtual relvar has the order of the first base relvar that it names.
 function orderLike(relvar, bases) {
@@ -37,12 +37,11 @@ function orderLike(relvar, bases) {
   relvar.like = like.name;
 }
 function addReference(relvars, constraint) {
-  const { from, to, attributes } = constraint.reference;
-  const [child, parent] = [relvars.get(from), relvars.get(to)];
-  if (!attributes.length) return;
-  constraint.reference.names = attributes;
-  child.references.push(constraint.reference);
-  parent.referents.push(constraint.reference);
+  const { reference } = constraint;
+  // (one at no attribute is a rule as others are)
+  if (!reference || !reference.attributes.length) return void (constraint.reference = null);
+  reference.names = reference.attributes;
+  relvars.get(reference.from).references.push(reference);
 }
 // `VAR FREE VIRTUAL ( BED NOT MATCHING BOOKED )`: which of BED is free for BOOKED.
 function addFree(relvars, relvar) {
@@ -60,7 +59,7 @@ function makeSchema(told) {
   const all = [...relvars.values()], bases = all.filter(relvar => relvar.isBase);
   const virtual = all.filter(relvar => !relvar.isBase);
   for (const relvar of virtual) orderLike(relvar, bases);
-  for (const constraint of told.constraints) if (constraint.reference) addReference(relvars, constraint);
+  for (const constraint of told.constraints) addReference(relvars, constraint);
   for (const relvar of virtual) addFree(relvars, relvar);
   return { types, relvars, bases, virtual, constraints: told.constraints };
 }
@@ -143,12 +142,11 @@ function brokenConstraintInWords(name) {
   return 'Each entry in “' + plain(from) + '” needs one in “' + plain(to) + '” with the same '
     + listed(names.map(inSentence)) + '.';
 }
-const RAISED = [[/^raised selector/, 'A value is outside what is allowed for it.'],
-  [/^raised empty/, 'Nothing is free any more.'], [/^raised overflow/, 'A number is too large.']];
-function reasonInWords(reason) {
-  const key = /^breaks key (\S+)/.exec(reason), constraint = /^breaks constraint (\S+)/.exec(reason);
-  if (key) return brokenKeyInWords(key[1]);
-  if (constraint) return brokenConstraintInWords(constraint[1]);
-  const raised = RAISED.find(([pattern]) => pattern.test(reason));
-  return raised ? raised[1] : reason;
+const RAISED = { selector: 'A value is outside what is allowed for it.', empty: 'Nothing is free any more.',
+  overflow: 'A number is too large.' };
+function reasonInWords(reason, breaks) {
+  if (breaks) return (isKey(breaks) ? brokenKeyInWords : brokenConstraintInWords)(breaks.name);
+  const raised = /^raised (\w+)/.exec(reason);
+  return raised && RAISED[raised[1]] || reason;
 }
+const isKey = breaks => Boolean(breaks) && breaks.kind === 'key';

@@ -6,7 +6,6 @@ const state = {
   received: 0,
   schema: null,
   vector: '',        // of which the lists are shown
-  refused: [],
   attention: [],     // what came to something else later, as the server marks it
   awaySince: 0,
   fault: '',         // why the last refresh failed, though the server answered
@@ -14,18 +13,17 @@ const state = {
   view: null,        // what is shown: { path, refresh, tick, .. }
   form: null,
   author: kept('author', null),  // null until it was asked for, empty if nobody wanted to say
+  client: { name: null, rights: 'all' },  // whose token this is, and what it may do
   isUploading: false,
 };
-// What this tab entered: { key, text, at, author }, once answered with its stamp, and what it changed then and now.
-let mine = kept('mine', []);
-// What has no answer yet.
+// The stamps of what this tab entered.
+let mine = kept('stamps', []);
+// What has no answer yet, or was not taken when it was sent again: { key, text, author, waits, failure, breaks }.
 let outbox = kept('outbox', []);
-// Cards of "Needs a look" that were left.
-const left = kept('left', []);
 
 function keepEntries() {
   mine = mine.slice(-200);
-  keep('mine', mine);
+  keep('stamps', mine);
   keep('outbox', outbox);
 }
 
@@ -53,12 +51,15 @@ function request(path, body, tag) {
 async function answerOf(reply) {
   const answer = await reply.json().catch(noAnswer);
   if (reply.ok) return answer;
-  if (reply.status === 401) throw new Error('Open the address that the server printed, with all that follows #.');
+  // (what the token may do was changed, perhaps)
+  if (reply.status === 403) isClientKnown = false;
+  if (reply.status === 401) throw new Error('Open this page by its whole address, with all that follows #.');
   if ([502, 503, 504].includes(reply.status)) throw new Away(answer.fault);
-  throw new Error(answer.fault);
+  throw Object.assign(new Error(answer.fault), { status: reply.status });
 }
 const call = async (path, body) => answerOf(await request(path, body));
 const log = async filter => (await call('/api/log?' + new URLSearchParams(filter))).log;
+const refusedEntries = async () => (await call('/api/refused')).refused;
 const query = (text, members) => call('/api/query', { text, ...members });
 const valueOf = async text => (await query(text)).value;
 const rowOf = (heading, cells) => Object.fromEntries(heading.map((attribute, index) => [attribute.name, cells[index]]));
@@ -82,11 +83,18 @@ const bytesOf = text => new TextEncoder().encode(text).length;
 
 // Issues a statement. It is in the outbox until it is answered, and is sent again under its key, so that it acts once.
 async function issue(text) {
-  const entry = { key: newKey(), text, at: Date.now(), author: state.author };
+  const entry = { key: newKey(), text, author: authorName() };
   outbox.push(entry);
   keepEntries();
   return send(entry);
 }
+// What a statement would come to: `refused` says why not, also of one that is none. While the server is away nothing is
+// known of that.
+const tryOut = text => call('/api/try', { text }).catch(fault => {
+  if (fault instanceof Away) return {};
+  if (fault.status !== 422) throw fault;
+  return { refused: fault.message };
+});
 function takeFromOutbox(entry) {
   outbox = outbox.filter(other => other.key !== entry.key);
   keepEntries();
@@ -114,28 +122,26 @@ function noteFault(entry, fault) {
   return { waits: isAway, why: fault.message, refused: entry.failure };
 }
 function noteAnswer(entry, answer) {
-  entry.stamp = answer.stamp;
-  entry.refused = answer.refused || '';
-  entry.changed = answer.changed || [];
-  mine.push(entry);
+  mine.push(answer.stamp);
   takeFromOutbox(entry);
   poll();
   if (answer.warning) toast(answer.warning);
-  return { stamp: answer.stamp, refused: answer.refused, changed: entry.changed };
+  return { changed: [], ...answer };
 }
 async function sendAgain() {
   for (const entry of outbox.filter(waiting => waiting.waits)) {
     const answer = await send(entry);
     if (answer.waits) return;
-    entry.isLate = Boolean(answer.refused);
+    const { stamp, refused, breaks } = answer;
+    if (stamp && refused) outbox.push({ ...entry, waits: false, failure: reasonInWords(refused, breaks), breaks });
     keepEntries();
-    toast('An entry that waited ' + (answer.refused ? 'was refused: see “Needs a look”.' : 'is saved now.'));
+    toast('An entry that waited ' + (refused ? 'was refused: see “Needs a look”.' : 'is saved now.'));
   }
 }
 
 // ---- What is asked again: one request, and nothing more while nothing changed
 
-let isPolling = false, pollAgain = false, lastPoll = 0, siteTag = null, schemaAnswer = null;
+let isPolling = false, pollAgain = false, lastPoll = 0, siteTag = null, schemaText = '', isClientKnown = false;
 
 async function poll() {
   pollAgain = isPolling;
@@ -153,6 +159,7 @@ async function poll() {
 }
 function failRefresh(fault) {
   siteTag = null;
+  isClientKnown = false;
   state.vector = '';
   if (!(fault instanceof Away)) state.fault = fault.message;
   else if (!state.awaySince) state.awaySince = Date.now();
@@ -166,7 +173,15 @@ async function changedSite() {
   siteTag = reply.headers.get('ETag');
   return site;
 }
+// Whose token this is: a server that does not know lets everyone do all.
+async function readClient() {
+  const reply = await request('/api/client'), was = state.client;
+  state.client = reply.status === 404 ? { name: null, rights: 'all' } : await answerOf(reply);
+  isClientKnown = true;
+  if (!isSame(was, state.client)) show();
+}
 async function refresh() {
+  if (!isClientKnown) await readClient();
   const site = await changedSite();
   state.awaySince = 0;
   lastPoll = Date.now();
@@ -183,92 +198,51 @@ async function takeSite(site) {
   if (vector !== state.vector) return readLists(vector);
   if (await readMarks()) await showChanges();
 }
-// Reads what is refused and what needs a look; returns whether that is other than it was.
+// Reads what needs a look; returns whether that is other than it was.
 async function readMarks() {
-  const [{ refused }, { attention }] = await Promise.all([call('/api/refused'), call('/api/attention')]);
-  const isOther = !isSame([refused, attention], [state.refused, state.attention]);
-  Object.assign(state, { refused, attention });
-  return isOther;
+  const was = state.attention;
+  state.attention = (await call('/api/attention')).attention;
+  return !isSame(was, state.attention);
 }
 async function whyClosed() {
   const reply = await request('/api/health');
   return (await reply.json()).fault || '';
 }
 async function readLists(vector) {
-  schemaAnswer = schemaAnswer || await call('/api/schema');
+  schemaText = schemaText || json(await call('/api/schema'));
   const [{ relvars }] = await Promise.all([call('/api/relvars?counts'), readMarks()]);
   const counts = relvars.map(relvar => [relvar.name, relvar.tuples]);
-  keep('known', { schema: schemaAnswer, counts, site: state.site });
-  takeSchema(schemaAnswer, counts);
-  await lookAgain();
+  keep('shown', { schema: schemaText, counts, site: state.site, client: state.client });
+  takeSchema(schemaText, counts);
   state.vector = vector;
   await showChanges();
 }
 // The lists are those of the schema that is shown already, if it is the same.
-let schemaText = '';
-function takeSchema(answer, counts) {
-  const text = json(answer);
-  if (text !== schemaText) state.schema = makeSchema(answer);
-  schemaText = text;
+let schemaShown = '';
+function takeSchema(text, counts) {
+  if (text !== schemaShown) state.schema = makeSchema(JSON.parse(text));
+  schemaShown = text;
   for (const [name, count] of counts) if (state.schema.relvars.has(name)) relvarNamed(name).count = count;
 }
 async function showChanges() {
   paintNav();
-  if (state.view && state.view.isOtherNow && state.view.isOtherNow()) show();
-  else if (state.view && state.view.refresh) await state.view.refresh();
+  if (state.view && state.view.refresh) await state.view.refresh();
   if (state.form) await state.form.refresh();
 }
 const ownNumber = () => Number(state.site.vector[state.site.site] || 0);
 
-// What became of this tab's entries. Only entries of other sites can change that.
-let lookedAt = '';
-async function lookAgain() {
-  const others = json({ ...state.site.vector, [state.site.site]: 0 });
-  if (others === lookedAt || !mine.length) return;
-  const oldest = mine.map(entry => entry.stamp).sort(isEarlier)[0];
-  const authors = new Set(mine.map(entry => entry.author));
-  const filter = { after: stampBefore(oldest) };
-  if (authors.size === 1 && mine[0].author) filter.author = mine[0].author;
-  const entries = new Map((await log(filter)).map(entry => [entry.stamp, entry]));
-  for (const entry of mine) noteOutcome(entry, entries.get(entry.stamp));
-  keepEntries();
-  lookedAt = others;
-}
-function noteOutcome(entry, told) {
-  if (!told) return;
-  entry.now = told.changed || [];
-  entry.reason = told.reason || '';
-}
-
 // ---- What needs a look
 
 const isSame = (one, other) => json(one) === json(other);
-const cardOf = entry => entry.stamp + '|' + (entry.reason || json(entry.now));
-function troubleOf(entry) {
-  const card = { stamp: entry.stamp, text: entry.text, author: entry.author, id: cardOf(entry) };
-  if (left.includes(card.id)) return null;
-  const reason = entry.isLate ? entry.reason || entry.refused : entry.reason;
-  if (reason && (entry.isLate || !entry.refused)) return { ...card, reason };
-  if (reason || entry.refused || !entry.now || isSame(entry.now, entry.changed)) return null;
-  return { ...card, was: entry.changed, now: entry.now };
-}
-// The server's marks say what became of entries; of this tab's own ones it is known what they changed before, too.
-function troubles() {
-  const failed = outbox.filter(entry => entry.failure);
-  const found = new Map(state.attention.map(entry => [entry.stamp, { ...entry, was: [], now: entry.changed }]));
-  for (const own of mine.map(troubleOf).filter(Boolean)) {
-    if (own.was || !found.has(own.stamp)) found.set(own.stamp, own);
-  }
-  return [...failed.map(entry => ({ ...entry, stamp: entry.key, reason: entry.failure })), ...found.values()];
-}
-// Takes a card away: at the server if that has marked the entry, else in this tab.
+// What waited and was not taken is known here; what came to something else later, the server marks.
+const troubles = () => [...outbox.filter(entry => entry.failure).map(entry =>
+  ({ ...entry, stamp: entry.key, reason: entry.failure })), ...state.attention];
+// Takes a card away.
 async function settle(stamp) {
   takeFromOutbox({ key: stamp });
   const others = state.attention.filter(entry => entry.stamp !== stamp);
   if (others.length < state.attention.length) await call('/api/acknowledge', { stamp });
   state.attention = others;
-  for (const entry of mine) if (entry.stamp === stamp) left.push(cardOf(entry));
-  keep('left', left.slice(-500));
   paintState();
   paintNav();
   if (currentPath() === 'look') show();
@@ -334,7 +308,7 @@ function solitude(site) {
   return [{ kind: 'warn', words }];
 }
 function notices() {
-  const site = state.site, all = [];
+  const site = state.site, all = mayWrite() ? [] : [{ kind: '', words: 'You may look, not write.' }];
   if (state.awaySince) {
     const words = 'The server has not answered since ' + timeOfDay(state.awaySince) + '.';
     all.push({ kind: 'bad', words: words + laterWords() });
@@ -356,7 +330,7 @@ function paintNotices() {
   if (text === noticesText) return;
   noticesText = text;
   draw(byId('notices'), all.map(({ kind, words, site }) =>
-    note(kind, words, site ? [' ', button('It is reported', () => reportClash(site))] : '')));
+    note(kind, words, site && mayWrite() ? [' ', button('It is reported', () => reportClash(site))] : '')));
 }
 function paintState() {
   const [kind, words] = linkWords(), count = state.schema ? troubles().length : 0;
@@ -370,11 +344,17 @@ function paintState() {
   const alarm = byId('alarm');
   if (alarm.hidden !== !count) alarm.hidden = !count;
   put(alarm, count + (count === 1 ? ' needs a look' : ' need a look'));
-  put(byId('who'), state.author || 'Your name');
+  put(byId('who'), authorName() || 'Your name');
   paintNotices();
 }
 
-// ---- Who writes: asked once, before the first entry
+// ---- Who writes: the token says that, or it is asked once, before the first entry
+
+const mayWrite = () => state.client.rights !== 'read';
+const authorName = () => state.client.name || state.author;
+const needName = async () => { if (authorName() === null) await askName(); };
+// (the server signs what comes with a token of a name)
+const signed = text => (state.author && !state.client.name ? '/* ' + state.author + ' */ ' : '') + text;
 
 // The name is in a comment: it has no sign that ends that, none that hides, and no more than 40.
 const cleanName = text => text.replace(HIDDEN, ' ').replace(/\*\/|\/\*/g, ' ').trim().slice(0, 40);
@@ -386,6 +366,7 @@ function takeName(box) {
   paintState();
 }
 function askName() {
+  if (state.client.name) return toast('This name is that of your token.');
   const box = byId('ask');
   byId('nameinput').value = state.author || '';
   box.showModal();

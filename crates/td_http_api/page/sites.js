@@ -14,7 +14,7 @@ async function meet(address, node) {
 function peerCard({ site, address, called, met, failed }) {
   const name = site ? 'Site ' + site : address;
   const act = button('Meet now', event => meet(address, event.target), '', { 'aria-label': 'Meet now: ' + name });
-  return div('card', div('top', el('b', {}, name), called ? act : ''),
+  return div('card', div('top', el('b', {}, name), called && state.client.rights === 'all' ? act : ''),
     para('', met === null ? 'Not met yet' : 'Met ' + ago(met + elapsed()),
       failed ? span('bad', ' · ' + counted(failed, 'call', 'calls') + ' failed since') : ''));
 }

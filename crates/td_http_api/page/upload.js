@@ -135,14 +135,16 @@ class Upload {
   chunks(lines) {
     return chunksOf(lines, ({ row }) => rowText(this.relvar, row));
   }
-  // Marks the lines that a rule does not allow: of a part that breaks one both halves are looked at.
-  async markRules(lines) {
-    const { relvar } = this, rows = lines.map(({ row }) => rowText(relvar, row));
-    const broken = rows.length ? await brokenConstraint(relvar, relvar.name + ' UNION ' + relationOf(rows)) : null;
-    if (broken && lines.length === 1) lines[0].unfit = ruleNotAllowed(broken);
-    if (!broken || lines.length === 1) return;
-    await this.markRules(lines.slice(0, lines.length / 2));
-    await this.markRules(lines.slice(lines.length / 2));
+  insertion(lines) {
+    return insertionOf(this.relvar, ...lines.map(({ row }) => row));
+  }
+  // Marks the lines that a rule does not allow: of a part that is refused both halves are tried.
+  async markRefused(lines) {
+    const { refused, breaks } = lines.length ? await tryOut(this.insertion(lines)) : {};
+    if (refused && lines.length === 1) lines[0].unfit = reasonInWords(refused, breaks);
+    if (!refused || lines.length === 1) return;
+    await this.markRefused(lines.slice(0, lines.length / 2));
+    await this.markRefused(lines.slice(lines.length / 2));
   }
   async look(text) {
     const lines = this.readLines(text), { relvar } = this;
@@ -156,8 +158,7 @@ class Upload {
         missesInWords(reference, relvar, row));
     }
     for (const attribute of relvar.attributes) await this.markValues(lines, attribute);
-    const good = lines.filter(line => !line.unfit);
-    for (const chunk of isSmall(relvar) ? this.chunks(good) : []) await this.markRules(chunk);
+    for (const chunk of this.chunks(lines.filter(line => !line.unfit))) await this.markRefused(chunk);
     this.showPlan(lines.filter(line => !line.unfit), lines.filter(line => line.unfit));
   }
   showPlan(good, bad) {
@@ -183,7 +184,7 @@ class Upload {
       el('td', {}, cut(valueInWords(this.relvar, row, name), 120)))))));
   }
   async run(chunks, total) {
-    if (state.author === null) await askName();
+    await needName();
     this.failures = [];
     this.added = 0;
     state.isUploading = true;
@@ -202,12 +203,11 @@ class Upload {
   }
   // Sends a part under one key until it is answered.
   async send(chunk, words) {
-    const text = authorComment(state.author) + 'INSERT ' + this.relvar.name + ' '
-      + relationOf(chunk.map(({ row }) => rowText(this.relvar, row))) + ';', key = newKey();
+    const text = signed(this.insertion(chunk)), key = newKey();
     for (;;) {
       try {
-        const { refused } = await call('/api/statement', { text, key });
-        if (refused) this.fail(chunk, reasonInWords(refused));
+        const { refused, breaks } = await call('/api/statement', { text, key });
+        if (refused) this.fail(chunk, reasonInWords(refused, breaks));
         else this.added += chunk.length;
         return;
       } catch (fault) {
@@ -230,7 +230,7 @@ class Upload {
 }
 function showUpload(name) {
   const relvar = relvarNamed(name);
-  if (!relvar || !relvar.isBase) return showNothing('Nothing can be uploaded here.');
+  if (!relvar || !relvar.isBase || !mayWrite()) return showNothing('Nothing can be uploaded here.');
   showHead('Upload CSV: ' + plain(name), 'The first line has the names ' + listed(namesOf(relvar).map(plain))
     + ', in any order. Nothing is saved before you have seen it.');
   state.view = { path: 'upload/' + name };
