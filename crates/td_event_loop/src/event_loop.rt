@@ -749,6 +749,11 @@ impl EventLoop {
         Ok(begun)
     }
 
+    // How many clients are connected.
+    fn client_count(&self) -> usize {
+        self.clients.iter().filter(|it| it.is_some()).count()
+    }
+
     /// Serves clients and peers, and calls the peers that are due, until the server is to end: then no more is
     /// accepted, answers that are under way are sent, for five seconds at most, and meetings are cut. If the server is
     /// to leave, all connections stay, and the loop may be run again for another server. An error is one of the
@@ -773,7 +778,7 @@ impl EventLoop {
             }
             self.wait(&mut events, is_busy)?;
             let now = millis(begun.elapsed(host)?);
-            server.pass_time(now);
+            server.pass_time(now, self.client_count());
             is_busy = self.turn(host, server, now);
         }
         Ok(())

@@ -8,8 +8,9 @@ pub trait Server: Service + Meets {
     /// How many requests were answered.
     fn answered(&self) -> u64;
 
-    /// Takes note of the time, in milliseconds since the loop began. It is called before each turn.
-    fn pass_time(&mut self, now: u64)
+    /// Takes note of the time, in milliseconds since the loop began, and of how many clients are connected. It is called
+    /// before each turn.
+    fn pass_time(&mut self, now: u64, clients: usize)
         ensures { Self.keeps self.old self.new };
 
     /// Reads its console once: that can be read without a wait. The answer is whether more may come.

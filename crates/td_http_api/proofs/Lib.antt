@@ -1,4 +1,6 @@
 -- The lemmas of the crate.
+mod Admitting
 mod FieldLemmas
+mod Rights
 mod Tokens
 mod Weaker

@@ -9,7 +9,7 @@ module _ {D : Type 0} (P Q : ApiCall → Type 0) (follows : (call : ApiCall) →
   makes : (old : D) (answer : Option Answer) (new : D) → Makes P answers old answer new → Makes Q answers old answer new
   makes old answer new m = record { call = m.call; fits = follows m.call m.fits; answered = m.answered }
 
-  comes : (old : D) (response : Response) (new : D) → ComesTo P answers old response new → ComesTo Q answers old response new
+  pub comes : (old : D) (response : Response) (new : D) → ComesTo P answers old response new → ComesTo Q answers old response new
   comes old response new (inl refused) = inl refused
   comes old response new (inr a) = inr (a.0, a.1, makes old (Some a.0) new a.2)
 

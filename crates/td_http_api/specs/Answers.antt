@@ -7,7 +7,7 @@ use Rattle.json.specs.Written.{Written}
 use Rattle.td_http_api.specs.declared.calls.ApiCall.{ApiCall}
 use Rattle.td_http_api.specs.declared.desk.DeskAnswer.{DeskAnswer}
 use Rattle.td_http_api.specs.declared.desk.Revision.{Revision}
-use Rattle.td_http_api.specs.declared.desk.DeskAnswer.TheVariants.{Members, Table}
+use Rattle.td_http_api.specs.declared.desk.DeskAnswer.TheVariants.{Members, Table, Metrics}
 
 -- a status, and the text of a body
 pub record Answer : Type 0 where
@@ -40,10 +40,11 @@ pub record IsBegun (out : Written) : Type 0 where
 abbrev pub object_text : Written → List ℕ
 object_text out = out.before ++ print (out.tokens ++ end_object ∷ [])
 
--- the object of the members that a desk wrote, or a table
+-- the object of the members that a desk wrote, or a text in place of it
 abbrev pub answer_of : DeskAnswer → Written → Answer
 answer_of (Members status) out = record { status = status; text = object_text out }
 answer_of (Table table) out = record { status = 200; text = string_bytes table }
+answer_of (Metrics metrics) out = record { status = 200; text = string_bytes metrics }
 
 -- what a desk answers, unless memory ran out
 abbrev pub given_answer : {E : Type 0} → Result DeskAnswer E → Written → Option Answer

@@ -8,5 +8,6 @@ pub mod Members
 pub mod Orders
 pub mod Requests
 pub mod Resources
+pub mod Rights
 pub mod Services
 pub mod Tags

@@ -4,12 +4,14 @@ use Rattle.http.specs.declared.request.Request.{Request}
 use Rattle.http.specs.Request.{head_of}
 use Rattle.http_server.specs.declared.response.Response.{Response}
 use Rattle.http_uri.specs.Uri.{uri_path}
+use Rattle.td_client_tokens.specs.declared.token.ClientToken.{ClientToken}
 use Rattle.td_http_api.specs.declared.calls.ApiCall.{ApiCall}
 use Rattle.td_http_api.specs.declared.desk.Revision.{Revision}
 use Rattle.td_http_api.specs.declared.guard.Guard.{Guard}
 use Rattle.td_http_api.specs.Answers.{Answer, Answering, Failing, IsAnswer, Revising, health_answer}
 use Rattle.td_http_api.specs.Guards.{Admits}
 use Rattle.td_http_api.specs.Requests.{AsksFor}
+use Rattle.td_http_api.specs.Rights.{MayMake}
 use Rattle.td_http_api.specs.Tags.{NamesTag, tag_text}
 
 -- a fault: the desk is as it was
@@ -35,9 +37,13 @@ LacksMemory Fits answers old new = (new ≡ old) ⊎ ((answer : Option Answer) �
 abbrev pub ComesTo : {D : Type 0} → (ApiCall → Type 0) → Answering D → D → Response → D → Type 0
 ComesTo Fits answers old response new = RespondsWithFault old response new ⊎ Responds Fits answers old response new
 
--- the request is let in, and asks for the call
+-- a request that is sent by the token asks for the call, and the token has the right to it
+abbrev pub HolderMayCall : ClientToken → Request (List ℕ) → ApiCall → Type 0
+HolderMayCall token request call = AsksFor token request call × MayMake token call
+
+-- the request is let in by a token, asks for the call, and has the right to it
 abbrev pub MayCall : Guard → Request (List ℕ) → ApiCall → Type 0
-MayCall guard request call = Admits guard request × AsksFor request call
+MayCall guard request call = (token : ClientToken) × Admits guard request token × HolderMayCall token request call
 
 -- the page, for which no token is asked
 pub record ShowsPage {D : Type 0} (old : D) (request : Request (List ℕ)) (new : D) : Type 0 where
@@ -58,7 +64,8 @@ pub record IsUnchanged {D : Type 0} (revision : Revision) (old : D) (request : R
 
 -- what the sender of a request has, which is let in, is as it was
 pub record ShowsUnchanged {D : Type 0} (revision : Revising D) (guard : Guard) (old : D) (request : Request (List ℕ)) (response : Response) (new : D) : Type 0 where
-  pub admits : Admits guard request
+  pub token : ClientToken
+  pub admits : Admits guard request token
   pub unchanged : IsUnchanged (revision old) old request response new
 
 -- A response is the page, whether the desk takes statements, that nothing changed, a fault that leaves the desk as it

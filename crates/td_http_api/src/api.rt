@@ -1,13 +1,13 @@
 //! The service over a desk.
 
-ghost use Rattle.std.specs.Prelude.{◌≡◌, ◌⊎◌, ◌≤◌, IfOk, OnErr, OnOk};
+ghost use Rattle.std.specs.Prelude.{◌≡◌, ◌⊎◌, ◌≤◌, IfOk, OnErr, OnOk, option_copied};
 ghost use Rattle.http.specs.Request.{head_of};
 ghost use Rattle.json.specs.Value.{value_view};
 ghost use Rattle.td_http_api.specs.Answers.{IsAnswer, IsBegun, object_text};
-ghost use Rattle.td_http_api.specs.Guards.{Holds};
-ghost use Rattle.td_http_api.specs.Requests.{AsksFor, GivesInBody, IsFor, query_of};
+ghost use Rattle.td_http_api.specs.Guards.{Permits, Holds};
+ghost use Rattle.td_http_api.specs.Requests.{GivesInBody, IsFor, query_of};
 ghost use Rattle.td_http_api.specs.Resources.{row_of};
-ghost use Rattle.td_http_api.specs.Services.{ComesTo, IsUnchanged, LacksMemory, Leads, MayCall, ShowsHealth, ShowsPage, ShowsUnchanged};
+ghost use Rattle.td_http_api.specs.Services.{ComesTo, HolderMayCall, IsUnchanged, LacksMemory, Leads, MayCall, ShowsHealth, ShowsPage, ShowsUnchanged};
 ghost use Rattle.td_http_api.specs.Tags.{IsUnanswered};
 
 use crate::arguments::{call_of_body, call_of_query};
@@ -16,8 +16,8 @@ use crate::desk::{Desk, DeskAnswer};
 use crate::fault::Fault;
 use crate::fields::fields_of;
 use crate::guard::{Guard, check_type};
-use crate::resources::{Description, Methods, Resource, Right, Target, target_at};
-use crate::responses::{put_fault, put_health, put_json, put_page, put_table};
+use crate::resources::{Methods, Resource, Right, Target, target_at};
+use crate::responses::{CSV, METRICS, put_fault, put_health, put_json, put_page, put_text};
 use crate::tags::{names_tag, put_tag, put_unchanged, tag_text};
 use bytes::Bytes;
 use http::{Request, StatusCode};
@@ -25,6 +25,7 @@ use http_server::{Response, Service};
 use json::{Error, Scratch, Value, Writer};
 use std::alloc::{AllocError, Global};
 use std::str;
+use td_client_tokens::{ClientToken, Rights};
 
 /// Answers requests from a desk.
 #[derive(Drop)]
@@ -76,6 +77,161 @@ fn query_string(request: &Request<Bytes>) -> &str
     }
 }
 
+// Answers with a fault, in words and with its status.
+fn refuse(alloc: Global, response: &mut Response, fault: &Fault<'_>) -> Result<(), AllocError>
+    requires { IsUnanswered response.old }
+    ensures { OnOk result (400 ≤ response.new.status) }
+{
+    put_fault(alloc, response, fault)
+}
+
+// Answers with what the desk answers to a call.
+fn make_call<D: Desk>(
+    alloc: Global,
+    desk: &mut D,
+    call: &ApiCall<'_>,
+    response: &mut Response,
+) -> Result<(), AllocError>
+    requires { IsUnanswered response.old }
+    ensures ok { OnOk result (ComesTo (λ made. made ≡ call.now) D.answers desk.old response.new
+        desk.new) }
+    ensures err { OnErr result (LacksMemory (λ made. made ≡ call.now) D.answers desk.old desk.new) }
+{
+    let mut out = begin_answer(alloc)?;
+    match desk.make(call, &mut out)? {
+        DeskAnswer::Members(status) => end_answer(response, status, out),
+        DeskAnswer::Table(table) => put_text(response, CSV, table),
+        DeskAnswer::Metrics(metrics) => put_text(response, METRICS, metrics),
+    }
+}
+
+// Answers the call that a path and a query string make.
+fn answer_query<D: Desk>(
+    alloc: Global,
+    desk: &mut D,
+    token: &ClientToken,
+    target: Target<'_>,
+    request: &Request<Bytes>,
+    response: &mut Response,
+) -> Result<(), AllocError>
+    requires unanswered { IsUnanswered response.old }
+    requires sent { IsFor target.resource target.name.now request.now }
+    requires right { Permits token.now (row_of target.resource).right }
+    ensures ok { OnOk result (ComesTo (HolderMayCall token.now request.now) D.answers desk.old
+        response.new desk.new) }
+    ensures err { OnErr result (LacksMemory (HolderMayCall token.now request.now) D.answers desk.old
+        desk.new) }
+{
+    let fields = fields_of(alloc, query_string(request))?;
+    match call_of_query(token, target, &fields) {
+        Ok(call) => make_call(alloc, desk, &call, response),
+        Err(fault) => refuse(alloc, response, &fault),
+    }
+}
+
+// Answers a GET: with what it asks for, or that what its sender has is as it was.
+fn answer_get<D: Desk>(
+    alloc: Global,
+    desk: &mut D,
+    token: &ClientToken,
+    target: Target<'_>,
+    request: &Request<Bytes>,
+    response: &mut Response,
+) -> Result<(), AllocError>
+    requires unanswered { IsUnanswered response.old }
+    requires sent { IsFor target.resource target.name.now request.now }
+    requires right { Permits token.now (row_of target.resource).right }
+    ensures ok { OnOk result (IsUnchanged (D.revision desk.old) desk.old request.now response.new
+        desk.new
+        ⊎ ComesTo (HolderMayCall token.now request.now) D.answers desk.old response.new desk.new) }
+    ensures err { OnErr result (LacksMemory (HolderMayCall token.now request.now) D.answers desk.old
+        desk.new) }
+{
+    let tag = tag_text(alloc, desk.revision())?;
+    put_tag(alloc, response, tag.as_str())?;
+    if names_tag(request, tag.as_str()) {
+        return put_unchanged(response);
+    }
+    answer_query(alloc, desk, token, target, request, response)
+}
+
+// Answers the call that the members of a body make.
+fn answer_members<'a, D: Desk>(
+    alloc: Global,
+    desk: &mut D,
+    token: &'a ClientToken,
+    resource: Resource,
+    body: &Value<'a>,
+    response: &mut Response,
+) -> Result<(), AllocError>
+    requires { IsUnanswered response.old }
+    ensures ok { OnOk result (ComesTo (GivesInBody token.now resource (value_view body.now)) D.answers
+        desk.old response.new desk.new) }
+    ensures err { OnErr result (LacksMemory (GivesInBody token.now resource (value_view body.now))
+        D.answers desk.old desk.new) }
+{
+    match call_of_body(alloc, token, resource, body) {
+        Ok(call) => make_call(alloc, desk, &call, response),
+        Err(fault) => refuse(alloc, response, &fault),
+    }
+}
+
+// Answers the call that a body makes. The body has to be strict JSON, and the request has to say that it is JSON.
+fn answer_body<D: Desk>(
+    alloc: Global,
+    desk: &mut D,
+    token: &ClientToken,
+    target: Target<'_>,
+    request: &Request<Bytes>,
+    response: &mut Response,
+) -> Result<(), AllocError>
+    requires unanswered { IsUnanswered response.old }
+    requires sent { IsFor target.resource target.name.now request.now }
+    requires right { Permits token.now (row_of target.resource).right }
+    ensures ok { OnOk result (ComesTo (HolderMayCall token.now request.now) D.answers desk.old
+        response.new desk.new) }
+    ensures err { OnErr result (LacksMemory (HolderMayCall token.now request.now) D.answers desk.old
+        desk.new) }
+{
+    if let Err(fault) = check_type(request) {
+        return refuse(alloc, response, &fault);
+    }
+    let Ok(text) = str::from_utf8(request.body().as_slice()) else {
+        return refuse(alloc, response, &Fault::Json);
+    };
+    let mut scratch = Scratch::new(alloc);
+    match Value::parse_strict(alloc, text, &mut scratch) {
+        Ok(body) => answer_members(alloc, desk, token, target.resource, &body, response),
+        Err(error) => match parse_fault(error) {
+            Some(fault) => refuse(alloc, response, &fault),
+            None => Err(AllocError),
+        },
+    }
+}
+
+// What a request is for, and the token by which it asks, if it has the right to it and a method of it.
+fn target_of<'a>(
+    guard: &'a Guard,
+    request: &'a Request<Bytes>,
+) -> Result<(Target<'a>, Option<&'a ClientToken>), Fault<'static>>
+    ensures { IfOk result (λ it. IsFor it.0.resource it.0.name.now request.now
+        × Holds guard.now request.now (row_of it.0.resource).right (option_copied it.1)) }
+{
+    guard.check_host(request)?;
+    let Some(target) = target_at(request.uri().path()) else {
+        // Only who may read learns that nothing is at a path.
+        guard.check_right(Right::Bearer(Rights::Read), request)?;
+        return Err(Fault::Path);
+    };
+    let description = target.resource.description();
+    let token = guard.check_right(description.right, request)?;
+    if description.methods.allow(request.method().as_str()) {
+        Ok((target, token))
+    } else {
+        Err(Fault::Method(description.methods))
+    }
+}
+
 impl<D: Desk> Api<D> {
     /// A service over this desk for the requests that the guard lets in.
     pub fn new(alloc: Global, desk: D, guard: Guard) -> Api<D>
@@ -93,145 +249,13 @@ impl<D: Desk> Api<D> {
         (self.desk, self.guard)
     }
 
-    // Answers with a fault, in words and with its status.
-    fn refuse(&self, response: &mut Response, fault: &Fault<'_>) -> Result<(), AllocError>
-        requires { IsUnanswered response.old }
-        ensures { OnOk result (400 ≤ response.new.status) }
+    /// Lets requests in that show one of these tokens, in place of those before.
+    pub fn set_tokens(&mut self, tokens: Vec<ClientToken>)
+        ensures desk { self.new.desk ≡ self.old.desk }
+        ensures hosts { self.new.guard.hosts ≡ self.old.guard.hosts }
+        ensures tokens { self.new.guard.tokens ≡ tokens }
     {
-        put_fault(self.alloc, response, fault)
-    }
-
-    // Answers with what the desk answers to a call.
-    fn make_call(&mut self, call: &ApiCall<'_>, response: &mut Response) -> Result<(), AllocError>
-        requires { IsUnanswered response.old }
-        ensures guard { self.new.guard ≡ self.old.guard }
-        ensures ok { OnOk result (ComesTo (λ made. made ≡ call.now) D.answers self.old.desk
-            response.new self.new.desk) }
-        ensures err { OnErr result (LacksMemory (λ made. made ≡ call.now) D.answers self.old.desk
-            self.new.desk) }
-    {
-        let mut out = begin_answer(self.alloc)?;
-        match self.desk.make(call, &mut out)? {
-            DeskAnswer::Members(status) => end_answer(response, status, out),
-            DeskAnswer::Table(table) => put_table(response, table),
-        }
-    }
-
-    // Answers the call that a path and a query string make.
-    fn answer_query(
-        &mut self,
-        target: Target<'_>,
-        request: &Request<Bytes>,
-        response: &mut Response,
-    ) -> Result<(), AllocError>
-        requires unanswered { IsUnanswered response.old }
-        requires sent { IsFor target.resource target.name.now request.now }
-        ensures guard { self.new.guard ≡ self.old.guard }
-        ensures ok { OnOk result (ComesTo (AsksFor request.now) D.answers self.old.desk response.new
-            self.new.desk) }
-        ensures err { OnErr result (LacksMemory (AsksFor request.now) D.answers self.old.desk
-            self.new.desk) }
-    {
-        let fields = fields_of(self.alloc, query_string(request))?;
-        match call_of_query(target, &fields) {
-            Ok(call) => self.make_call(&call, response),
-            Err(fault) => self.refuse(response, &fault),
-        }
-    }
-
-    // Answers a GET: with what it asks for, or that what its sender has is as it was.
-    fn answer_get(
-        &mut self,
-        target: Target<'_>,
-        request: &Request<Bytes>,
-        response: &mut Response,
-    ) -> Result<(), AllocError>
-        requires unanswered { IsUnanswered response.old }
-        requires sent { IsFor target.resource target.name.now request.now }
-        ensures guard { self.new.guard ≡ self.old.guard }
-        ensures ok { OnOk result (IsUnchanged (D.revision self.old.desk) self.old.desk request.now
-            response.new self.new.desk
-            ⊎ ComesTo (AsksFor request.now) D.answers self.old.desk response.new self.new.desk) }
-        ensures err { OnErr result (LacksMemory (AsksFor request.now) D.answers self.old.desk
-            self.new.desk) }
-    {
-        let tag = tag_text(self.alloc, self.desk.revision())?;
-        put_tag(self.alloc, response, tag.as_str())?;
-        if names_tag(request, tag.as_str()) {
-            return put_unchanged(response);
-        }
-        self.answer_query(target, request, response)
-    }
-
-    // Answers the call that a body makes. The body has to be strict JSON, and the request has to say that it is JSON.
-    fn answer_body(
-        &mut self,
-        target: Target<'_>,
-        request: &Request<Bytes>,
-        response: &mut Response,
-    ) -> Result<(), AllocError>
-        requires unanswered { IsUnanswered response.old }
-        requires sent { IsFor target.resource target.name.now request.now }
-        ensures guard { self.new.guard ≡ self.old.guard }
-        ensures ok { OnOk result (ComesTo (AsksFor request.now) D.answers self.old.desk response.new
-            self.new.desk) }
-        ensures err { OnErr result (LacksMemory (AsksFor request.now) D.answers self.old.desk
-            self.new.desk) }
-    {
-        if let Err(fault) = check_type(request) {
-            return self.refuse(response, &fault);
-        }
-        let Ok(text) = str::from_utf8(request.body().as_slice()) else {
-            return self.refuse(response, &Fault::Json);
-        };
-        let mut scratch = Scratch::new(self.alloc);
-        match Value::parse_strict(self.alloc, text, &mut scratch) {
-            Ok(body) => self.answer_members(target.resource, &body, response),
-            Err(error) => match parse_fault(error) {
-                Some(fault) => self.refuse(response, &fault),
-                None => Err(AllocError),
-            },
-        }
-    }
-
-    // Answers the call that the members of a body make.
-    fn answer_members(
-        &mut self,
-        resource: Resource,
-        body: &Value<'_>,
-        response: &mut Response,
-    ) -> Result<(), AllocError>
-        requires { IsUnanswered response.old }
-        ensures guard { self.new.guard ≡ self.old.guard }
-        ensures ok { OnOk result (ComesTo (GivesInBody resource (value_view body.now)) D.answers
-            self.old.desk response.new self.new.desk) }
-        ensures err { OnErr result (LacksMemory (GivesInBody resource (value_view body.now))
-            D.answers self.old.desk self.new.desk) }
-    {
-        match call_of_body(self.alloc, resource, body) {
-            Ok(call) => self.make_call(&call, response),
-            Err(fault) => self.refuse(response, &fault),
-        }
-    }
-
-    // What a request is for, if it has the right to it and a method of it.
-    fn target<'a>(&self, request: &'a Request<Bytes>) -> Result<Target<'a>, Fault<'static>>
-        ensures { IfOk result (λ target. IsFor target.resource target.name.now request.now
-            × Holds self.now.guard request.now (row_of target.resource).right) }
-    {
-        self.guard.check_host(request)?;
-        let Some(target) = target_at(request.uri().path()) else {
-            // Only who bears the token learns that nothing is at a path.
-            self.guard.check_right(Right::Bearer, request)?;
-            return Err(Fault::Path);
-        };
-        let description = target.resource.description();
-        self.guard.check_right(description.right, request)?;
-        if description.methods.allow(request.method().as_str()) {
-            Ok(target)
-        } else {
-            Err(Fault::Method(description.methods))
-        }
+        self.guard.set_tokens(tokens)
     }
 
     // Answers a request.
@@ -251,20 +275,20 @@ impl<D: Desk> Api<D> {
         ensures err { OnErr result (LacksMemory (MayCall self.old.guard request.now) D.answers
             self.old.desk self.new.desk) }
     {
-        let target = match self.target(request) {
-            Ok(target) => target,
-            Err(fault) => return self.refuse(response, &fault),
+        let (target, token) = match target_of(&self.guard, request) {
+            Ok(found) => found,
+            Err(fault) => return refuse(self.alloc, response, &fault),
         };
-        let Description { methods, right, .. } = target.resource.description();
-        match right {
-            Right::Everyone => match target.resource {
+        let Some(token) = token else {
+            return match target.resource {
                 Resource::Health => put_health(self.alloc, response, self.desk.failure()),
                 _ => put_page(response),
-            },
-            Right::Bearer if methods == Methods::Post => {
-                self.answer_body(target, request, response)
-            }
-            Right::Bearer => self.answer_get(target, request, response),
+            };
+        };
+        if target.resource.description().methods == Methods::Post {
+            answer_body(self.alloc, &mut self.desk, token, target, request, response)
+        } else {
+            answer_get(self.alloc, &mut self.desk, token, target, request, response)
         }
     }
 }

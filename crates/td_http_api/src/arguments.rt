@@ -3,6 +3,7 @@
 ghost use Rattle.std.specs.Prelude.{◌≡◌, Some, IfOk, IsOk, map, option_copied};
 ghost use Rattle.json.specs.Value.{value_view};
 ghost use Rattle.td_http_api.specs.Fields.{field_texts};
+ghost use Rattle.td_http_api.specs.Guards.{token_name};
 ghost use Rattle.td_http_api.specs.Resources.{row_of};
 ghost use Rattle.td_http_api.specs.Requests.{AreKnown, GivesInBody, GivesInQuery, HasCount, HasFilter, HasFlag, HasNumber, HasSelection, member_text};
 
@@ -14,6 +15,7 @@ use crate::orders::order_of;
 use crate::resources::{Resource, Target};
 use json::Value;
 use std::alloc::Global;
+use td_client_tokens::ClientToken;
 
 // Refuses a body that is no object or has a member that is none of these.
 fn check_body<'a>(body: &Value<'a>, members: &[Member]) -> Result<(), Fault<'a>> {
@@ -114,19 +116,34 @@ fn required_count(body: &Value<'_>, member: Member) -> Result<u64, Fault<'static
     }
 }
 
-/// The call that a GET makes by its path and the fields of its query string.
+// The name of a token, if it has one.
+fn name_of(token: &ClientToken) -> Option<&str>
+    ensures { option_copied result ≡ token_name token.now }
+{
+    match &token.name {
+        Some(name) => Some(name.as_str()),
+        None => None,
+    }
+}
+
+/// The call that a GET by this token makes by its path and the fields of its query string.
 pub(crate) fn call_of_query<'a>(
+    token: &'a ClientToken,
     target: Target<'a>,
     fields: &'a [(String, String)],
 ) -> Result<ApiCall<'a>, Fault<'a>>
     ensures known { IsOk result → AreKnown (row_of target.entry.resource).members
         (map field_texts fields.now) }
-    ensures gives { IfOk result (GivesInQuery target.entry.resource target.entry.name.now
+    ensures gives { IfOk result (GivesInQuery token.now target.entry.resource target.entry.name.now
         (map field_texts fields.now)) }
 {
     check_fields(fields, target.resource.description().members)?;
     match target.resource {
         Resource::Site => Ok(ApiCall::Site),
+        Resource::Client => Ok(ApiCall::Client {
+            name: name_of(token),
+            rights: token.rights,
+        }),
         Resource::Relvars => Ok(ApiCall::Relvars {
             counts: flag_of(fields, Member::Counts)?,
         }),
@@ -139,6 +156,7 @@ pub(crate) fn call_of_query<'a>(
         Resource::Script => Ok(ApiCall::Script),
         Resource::Schema => Ok(ApiCall::Schema),
         Resource::Digest => Ok(ApiCall::Digest),
+        Resource::Metrics => Ok(ApiCall::Metrics),
         _ => Err(Fault::Path),
     }
 }
@@ -158,13 +176,14 @@ fn selection_of<'a>(alloc: Global, body: &Value<'a>) -> Result<Selection<'a>, Fa
     })
 }
 
-/// The call that a POST makes by its body.
+/// The call that a POST by this token makes by its body.
 pub(crate) fn call_of_body<'a>(
     alloc: Global,
+    token: &'a ClientToken,
     resource: Resource,
     body: &Value<'a>,
 ) -> Result<ApiCall<'a>, Fault<'a>>
-    ensures { IfOk result (GivesInBody resource (value_view body.now)) }
+    ensures { IfOk result (GivesInBody token.now resource (value_view body.now)) }
 {
     check_body(body, resource.description().members)?;
     match resource {
@@ -176,6 +195,7 @@ pub(crate) fn call_of_body<'a>(
         Resource::Statement => Ok(ApiCall::Statement {
             text: required_text(body, Member::Text)?,
             key: optional_text(body, Member::Key)?,
+            author: name_of(token),
         }),
         Resource::Trial => Ok(ApiCall::Trial {
             text: required_text(body, Member::Text)?,

@@ -1,5 +1,7 @@
 //! The calls that a request can make.
 
+use td_client_tokens::Rights;
+
 /// An attribute by which tuples are ordered.
 #[derive(Drop)]
 pub struct OrderBy {
@@ -46,6 +48,11 @@ pub struct LogFilter<'a> {
 pub enum ApiCall<'a> {
     /// What the site is, what it holds, and whom it met.
     Site,
+    /// Who asks: the name and the rights of the token.
+    Client {
+        name: Option<&'a str>,
+        rights: Rights,
+    },
     /// Each relvar with its heading, and with `counts` how many tuples it has.
     Relvars {
         counts: bool,
@@ -66,16 +73,20 @@ pub enum ApiCall<'a> {
     Schema,
     /// Of each site that has issued, up to which number its statements are held, and their digest.
     Digest,
+    /// What a program that watches the site counts.
+    Metrics,
     /// The value of an expression: of a relation these tuples. With a stamp, as it was just after that statement.
     Query {
         text: &'a str,
         at: Option<&'a str>,
         selection: Selection<'a>,
     },
-    /// A statement is added. A key that an earlier statement had gives that statement's answer again.
+    /// A statement is added, with the name of the token by which it is sent. A key that an earlier statement had gives
+    /// that statement's answer again.
     Statement {
         text: &'a str,
         key: Option<&'a str>,
+        author: Option<&'a str>,
     },
     /// What a statement would come to. Nothing is added.
     Trial {

@@ -15,12 +15,14 @@ use json::Writer;
 use std::alloc::AllocError;
 
 /// What a desk answers to a call.
-#[derive(Debug, Drop)]
+#[derive(Drop)]
 pub enum DeskAnswer {
     /// The members that it wrote, with this status.
     Members(StatusCode),
     /// A table in CSV, in place of them.
     Table(String),
+    /// Metrics in the text format of Prometheus, in place of them.
+    Metrics(String),
 }
 
 /// What a site shows is the same as long as this is.

@@ -5,17 +5,20 @@ ghost use Rattle.std.specs.Prelude.{◌≤◌};
 use crate::resources::Methods;
 use http::StatusCode;
 use std::alloc::AllocError;
+use td_client_tokens::Rights;
 use thiserror::Error;
 
 /// A fault of a request.
-#[derive(Clone, Copy, Debug, PartialEq, Eq, Error)]
+#[derive(Clone, Copy, Debug, Error)]
 pub(crate) enum Fault<'a> {
-    #[error("the request names another host")]
+    #[error("the request names another host: --host NAME lets it in")]
     Host,
     #[error("the request comes from another page")]
     Origin,
     #[error("the token is lacking or another one")]
     Token,
+    #[error("this needs a token with the rights {}, and this one has fewer", .0.name())]
+    Rights(Rights),
     #[error("the body has to be application/json")]
     ContentType,
     #[error("nothing is at this path")]
@@ -61,7 +64,7 @@ impl Fault<'_> {
     {
         match self {
             Fault::Host => StatusCode::MISDIRECTED_REQUEST,
-            Fault::Origin => StatusCode::FORBIDDEN,
+            Fault::Origin | Fault::Rights(_) => StatusCode::FORBIDDEN,
             Fault::Token => StatusCode::UNAUTHORIZED,
             Fault::ContentType => StatusCode::UNSUPPORTED_MEDIA_TYPE,
             Fault::Path => StatusCode::NOT_FOUND,

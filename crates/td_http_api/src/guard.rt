@@ -1,22 +1,22 @@
 //! Which requests are let in.
 
-ghost use Rattle.std.specs.Prelude.{◌≡◌, ◌++◌, ◌↔◌, ℕ, List, [], codes, IfOk, OnOk, IsTrue, option_copied, string_bytes};
+ghost use Rattle.std.specs.Prelude.{◌≡◌, ◌++◌, ◌↔◌, ◌⊎◌, ℕ, List, [], codes, Contains, IfOk, IfSome, OnOk, IsTrue, option_copied, string_bytes};
 ghost use Rattle.http_header.specs.HeaderMap.{get_all};
-ghost use Rattle.td_http_api.specs.Guards.{Bears, HasHost, HasOrigin, Holds, IsHost, only_value};
+ghost use Rattle.td_http_api.specs.Guards.{Admits, Bears, HasHost, HasOrigin, HasRights, Holds, IsHost, IsOrigin, only_value};
 
 use crate::fault::Fault;
 use crate::resources::Right;
 use bytes::Bytes;
 use http::Request;
 use http_header::{AUTHORIZATION, CONTENT_TYPE, HOST, HeaderMap, HeaderName, HeaderValue, ORIGIN};
-use std::alloc::{AllocError, Global};
+use td_client_tokens::{ClientToken, Rights};
 
 /// What a request has to show: a name of this host, so that no name of another site leads here; an origin that is this
-/// one, where a browser names one; and the token.
+/// one, where a browser names one; and one of the tokens.
 #[derive(Drop)]
 pub struct Guard {
     pub(crate) hosts: Vec<String>,
-    pub(crate) bearer: String,
+    pub(crate) tokens: Vec<ClientToken>,
 }
 
 /// The one value of a field; none where there is no value or several.
@@ -53,14 +53,21 @@ fn is_same(a: &[u8], b: &[u8]) -> bool
 }
 
 impl Guard {
-    /// Lets in requests to these hosts, each with its port, that show `authorization: Bearer TOKEN`.
-    pub fn new(alloc: Global, hosts: Vec<String>, token: &str) -> Result<Guard, AllocError>
-        ensures { IfOk result (λ guard. (guard.hosts ≡ hosts)
-            × (string_bytes guard.bearer ≡ codes "Bearer " ++ token.now)) }
+    /// Lets in requests to these hosts that show `authorization: Bearer TOKEN` with one of the tokens. A host is as a
+    /// browser names it: with its port, if that is not the one of the scheme.
+    pub fn new(hosts: Vec<String>, tokens: Vec<ClientToken>) -> Guard
+        ensures hosts { result.hosts ≡ hosts }
+        ensures tokens { result.tokens ≡ tokens }
     {
-        let mut bearer = String::from_str(alloc, "Bearer ")?;
-        bearer.push_str(token)?;
-        Ok(Guard { hosts, bearer })
+        Guard { hosts, tokens }
+    }
+
+    /// Lets in requests that show one of these tokens, in place of those before.
+    pub(crate) fn set_tokens(&mut self, tokens: Vec<ClientToken>)
+        ensures hosts { self.new.hosts ≡ self.old.hosts }
+        ensures tokens { self.new.tokens ≡ tokens }
+    {
+        self.tokens = tokens;
     }
 
     // Whether a Host header names one of the hosts of the server, in letters of any case.
@@ -75,13 +82,14 @@ impl Guard {
         false
     }
 
-    // Whether an origin is `http://` and then one of the hosts of the server.
+    // Whether an origin is `http://` or `https://` and then one of the hosts of the server.
     fn is_origin(&self, origin: &[u8]) -> bool
-        ensures { IsTrue result
-            → ((host : List ℕ) × (origin.now ≡ codes "http://" ++ host)
-            × IsHost self.now.hosts.items host) }
+        ensures { IsTrue result → IsOrigin self.now.hosts.items origin.now }
     {
-        match origin.strip_prefix(b"http://") {
+        if let Some(host) = origin.strip_prefix(b"http://") {
+            return self.is_host(host);
+        }
+        match origin.strip_prefix(b"https://") {
             Some(host) => self.is_host(host),
             None => false,
         }
@@ -110,31 +118,65 @@ impl Guard {
         }
     }
 
-    // Lets a request in whose single Authorization header bears the token; the comparison is that of `is_same`.
-    fn check_token(&self, request: &Request<Bytes>) -> Result<(), Fault<'static>>
-        ensures { OnOk result (Bears (string_bytes self.now.bearer) request.now) }
+    // The token with this secret; the comparison is that of `is_same`.
+    fn find_token(&self, secret: &[u8]) -> Option<&ClientToken>
+        ensures { IfSome result (λ token. Contains self.now.tokens.items token.now
+            × (string_bytes token.now.secret ≡ secret.now)) }
     {
-        match only(request.headers(), AUTHORIZATION) {
-            Some(shown) if is_same(shown, self.bearer.as_bytes()) => Ok(()),
-            _ => Err(Fault::Token),
+        for token in &self.tokens {
+            if is_same(token.secret.as_bytes(), secret) {
+                return Some(token);
+            }
+        }
+        None
+    }
+
+    // The token that the single Authorization header of a request bears.
+    fn token_of(&self, request: &Request<Bytes>) -> Result<&ClientToken, Fault<'static>>
+        ensures { IfOk result (λ token. Contains self.now.tokens.items token.now
+            × Bears token.now request.now) }
+    {
+        let shown = only(request.headers(), AUTHORIZATION).unwrap_or(b"");
+        let Some(secret) = shown.strip_prefix(b"Bearer ") else {
+            return Err(Fault::Token);
+        };
+        match self.find_token(secret) {
+            Some(token) => Ok(token),
+            None => Err(Fault::Token),
         }
     }
 
-    /// Refuses a request to this host that lacks a right.
+    // The token of a request to this host, if it has these rights.
+    fn check_rights(
+        &self,
+        rights: Rights,
+        request: &Request<Bytes>,
+    ) -> Result<&ClientToken, Fault<'static>>
+        requires { HasHost self.now.hosts.items request.now }
+        ensures { IfOk result (λ token. Admits self.now request.now token.now
+            × HasRights token.now rights) }
+    {
+        self.check_origin(request)?;
+        let token = self.token_of(request)?;
+        if token.rights.include(rights) {
+            Ok(token)
+        } else {
+            Err(Fault::Rights(rights))
+        }
+    }
+
+    /// The token of a request to this host, where one is needed. It refuses a request that lacks the right.
     pub(crate) fn check_right(
         &self,
         right: Right,
         request: &Request<Bytes>,
-    ) -> Result<(), Fault<'static>>
+    ) -> Result<Option<&ClientToken>, Fault<'static>>
         requires { HasHost self.now.hosts.items request.now }
-        ensures { OnOk result (Holds self.now request.now right) }
+        ensures { IfOk result (λ token. Holds self.now request.now right (option_copied token)) }
     {
         match right {
-            Right::Everyone => Ok(()),
-            Right::Bearer => {
-                self.check_origin(request)?;
-                self.check_token(request)
-            }
+            Right::Everyone => Ok(None),
+            Right::Bearer(rights) => Ok(Some(self.check_rights(rights, request)?)),
         }
     }
 }

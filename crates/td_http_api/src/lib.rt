@@ -4,8 +4,8 @@
 //! Begin with `Api`, an `http_server::Service`, with `Guard`, which requests are let in, with `ApiCall`, the calls, and
 //! with `Desk`, the site that answers them.
 //!
-//! Its definitions are in `specs/`: begin with Services, what comes of a request, and go on with Guards, Tags, Requests,
-//! Resources, Members, Answers, Integers and Laws.
+//! Its definitions are in `specs/`: begin with Services, what comes of a request, and go on with Guards, Rights, Tags,
+//! Requests, Resources, Members, Answers, Integers and Laws.
 //!
 //! td_http_api moves no bytes and knows no site but a `Desk`.
 //!
@@ -13,14 +13,15 @@
 //!
 //! 1. `calls.rt`: a variant of `ApiCall` with its arguments.
 //! 2. `resources.rt` and `specs/Resources.antt`: a variant of `Resource`, its place in `RESOURCES`, and its row, which
-//!    has its path, its methods, who may ask for it, and the members that it takes. A member that no call had before
+//!    has its path, its methods, which rights it needs, and the members that it takes. `specs/Rights.antt` has the rights
+//!    by the call. A member that no call had before
 //!    has a row of its own in `members.rt` and `specs/Members.antt`.
 //! 3. `arguments.rt`: an arm of `call_of_query` or `call_of_body`, which reads its arguments.
 //! 4. `specs/Requests.antt`: an arm of `GivesInQuery` or `GivesInBody`, which says where its arguments are.
 //! 5. Each desk: an arm that answers it.
 //!
-//! The refusals follow from the rows: 404 for another path, 401 without the right, 405 with Allow for another method,
-//! and 400 for a member that is unknown, missing or of another kind.
+//! The refusals follow from the rows: 404 for another path, 401 without a token, 403 for a token without the right, 405
+//! with Allow for another method, and 400 for a member that is unknown, missing or of another kind.
 //!
 //! A desk appends the members of an object that the service opened and will close, and returns the status. The members
 //! that the page reads:
@@ -32,9 +33,11 @@
 //!   with `site` and `address`: statements of that site differ here and at the site that was met there, and nobody has
 //!   acknowledged that; `meetings`, the latest first, each with `peer`, `called` (true where this site called), `met`,
 //!   `words` (what it brought, or why it failed) and `seconds` (how long ago).
+//! - `Client`: `name`, null if the token has none, and `rights`, `read`, `write` or `all`.
 //! - `Relvars`: `relvars`, each with `name`, `kind` (`base` or `virtual`), `heading` (of each attribute `name` and
 //!   `type`) and, where they are counted, `tuples`.
 //! - `Refused`: `refused` in the order of stamps, each with `stamp`, `number`, `author` (null if its text names none),
+//!   `confirmed` (true where this site issued it for a token of that name),
 //!   `came` (when it came to this site, in seconds since 1970, null if that is not known), `reason`, `breaks` (the
 //!   `kind`, `key` or `constraint`, and the `name`, if it breaks one), `text` and `reversed`, true where it was done
 //!   here and nobody has acknowledged that it is refused.
@@ -56,7 +59,8 @@
 //! - `Meet`: `calling`, with 202; an address that may not be called is a fault with 403. `Stop`: `stopping`, with 202.
 //! - A fault, with a status from 400 on: `fault`, its words, in lines where a caret is below a place.
 //!
-//! `Table` is answered by comma-separated values in place of an object, or by a fault.
+//! `Table` is answered by comma-separated values in place of an object, or by a fault, and `Metrics` by the text format of
+//! Prometheus.
 //!
 //! Integers go by `write_integer`, so that those beyond 2^53 are texts.
 #![tactic(auto)]

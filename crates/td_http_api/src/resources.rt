@@ -8,6 +8,7 @@ use crate::members::Member;
 use http_header::HeaderValue;
 use std::fmt;
 use std::fmt::{Display, Formatter, Write};
+use td_client_tokens::Rights;
 
 /// What is at a path: the page, whether the site takes statements, or a call.
 #[derive(Clone, Copy)]
@@ -15,6 +16,7 @@ pub(crate) enum Resource {
     Page,
     Health,
     Site,
+    Client,
     Relvars,
     Table,
     Refused,
@@ -23,6 +25,7 @@ pub(crate) enum Resource {
     Script,
     Schema,
     Digest,
+    Metrics,
     Query,
     Statement,
     Trial,
@@ -33,10 +36,11 @@ pub(crate) enum Resource {
 }
 
 /// All of them, in the order in which a path is compared with theirs.
-const RESOURCES: [Resource; 18] = [
+const RESOURCES: [Resource; 20] = [
     Resource::Page,
     Resource::Health,
     Resource::Site,
+    Resource::Client,
     Resource::Relvars,
     Resource::Table,
     Resource::Refused,
@@ -45,6 +49,7 @@ const RESOURCES: [Resource; 18] = [
     Resource::Script,
     Resource::Schema,
     Resource::Digest,
+    Resource::Metrics,
     Resource::Query,
     Resource::Statement,
     Resource::Trial,
@@ -73,8 +78,8 @@ pub(crate) enum Methods {
 #[derive(Clone, Copy)]
 pub(crate) enum Right {
     Everyone,
-    /// Whoever bears the token.
-    Bearer,
+    /// Whoever bears a token that has these rights.
+    Bearer(Rights),
 }
 
 /// The row of a resource in the table.
@@ -133,17 +138,32 @@ impl Display for Methods {
     }
 }
 
-// A call for the bearer of the token.
-fn call_by(methods: Methods, path: &'static str, members: &'static [Member]) -> Description
-    ensures methods { result.methods ≡ methods }
+// A call by GET, for whoever may read.
+fn read_at(path: &'static str, members: &'static [Member]) -> Description
+    ensures methods { result.methods ≡ Methods.Get }
     ensures path { (name : List ℕ) → path_text result.path name ≡ path.now }
-    ensures right { result.right ≡ Right.Bearer }
+    ensures right { result.right ≡ Right.Bearer Rights.Read }
     ensures members { result.members.now ≡ members.now }
 {
     Description {
         path: Path::Whole(path),
-        methods,
-        right: Right::Bearer,
+        methods: Methods::Get,
+        right: Right::Bearer(Rights::Read),
+        members,
+    }
+}
+
+// A call by POST, for whoever has these rights.
+fn post_to(path: &'static str, rights: Rights, members: &'static [Member]) -> Description
+    ensures methods { result.methods ≡ Methods.Post }
+    ensures path { (name : List ℕ) → path_text result.path name ≡ path.now }
+    ensures right { result.right ≡ Right.Bearer rights }
+    ensures members { result.members.now ≡ members.now }
+{
+    Description {
+        path: Path::Whole(path),
+        methods: Methods::Post,
+        right: Right::Bearer(rights),
         members,
     }
 }
@@ -176,18 +196,18 @@ impl Resource {
         match self {
             Resource::Page => shown_at("/"),
             Resource::Health => shown_at("/api/health"),
-            Resource::Site => call_by(Methods::Get, "/api/site", &[]),
-            Resource::Relvars => call_by(Methods::Get, "/api/relvars", &[Member::Counts]),
+            Resource::Site => read_at("/api/site", &[]),
+            Resource::Client => read_at("/api/client", &[]),
+            Resource::Relvars => read_at("/api/relvars", &[Member::Counts]),
             Resource::Table => Description {
                 path: Path::Around("/api/relvars/", ".csv"),
                 methods: Methods::Get,
-                right: Right::Bearer,
+                right: Right::Bearer(Rights::Read),
                 members: &[],
             },
-            Resource::Refused => call_by(Methods::Get, "/api/refused", &[]),
-            Resource::Attention => call_by(Methods::Get, "/api/attention", &[]),
-            Resource::Log => call_by(
-                Methods::Get,
+            Resource::Refused => read_at("/api/refused", &[]),
+            Resource::Attention => read_at("/api/attention", &[]),
+            Resource::Log => read_at(
                 "/api/log",
                 &[
                     Member::After,
@@ -199,12 +219,13 @@ impl Resource {
                     Member::Last,
                 ],
             ),
-            Resource::Script => call_by(Methods::Get, "/api/script", &[]),
-            Resource::Schema => call_by(Methods::Get, "/api/schema", &[]),
-            Resource::Digest => call_by(Methods::Get, "/api/digest", &[]),
-            Resource::Query => call_by(
-                Methods::Post,
+            Resource::Script => read_at("/api/script", &[]),
+            Resource::Schema => read_at("/api/schema", &[]),
+            Resource::Digest => read_at("/api/digest", &[]),
+            Resource::Metrics => read_at("/metrics", &[]),
+            Resource::Query => post_to(
                 "/api/query",
+                Rights::Read,
                 &[
                     Member::Text,
                     Member::At,
@@ -214,18 +235,22 @@ impl Resource {
                     Member::Count,
                 ],
             ),
-            Resource::Statement => call_by(
-                Methods::Post,
-                "/api/statement",
-                &[Member::Text, Member::Key],
-            ),
-            Resource::Trial => call_by(Methods::Post, "/api/try", &[Member::Text]),
-            Resource::Acknowledge => call_by(Methods::Post, "/api/acknowledge", &[Member::Stamp]),
-            Resource::AcknowledgeAlarms => {
-                call_by(Methods::Post, "/api/alarms/acknowledge", &[Member::Site])
+            Resource::Statement => {
+                post_to(
+                    "/api/statement",
+                    Rights::Write,
+                    &[Member::Text, Member::Key],
+                )
             }
-            Resource::Meet => call_by(Methods::Post, "/api/meet", &[Member::Address]),
-            Resource::Stop => call_by(Methods::Post, "/api/stop", &[]),
+            Resource::Trial => post_to("/api/try", Rights::Read, &[Member::Text]),
+            Resource::Acknowledge => {
+                post_to("/api/acknowledge", Rights::Write, &[Member::Stamp])
+            }
+            Resource::AcknowledgeAlarms => {
+                post_to("/api/alarms/acknowledge", Rights::Write, &[Member::Site])
+            }
+            Resource::Meet => post_to("/api/meet", Rights::All, &[Member::Address]),
+            Resource::Stop => post_to("/api/stop", Rights::All, &[]),
         }
     }
 }

@@ -1,6 +1,7 @@
 //! What is sent.
 
-ghost use Rattle.std.specs.Prelude.{◌≡◌, ◌++◌, ◌≤◌, OnOk, option_copied, string_bytes};
+ghost use Rattle.std.specs.Prelude.{◌≡◌, ◌++◌, ◌≤◌, IsTrue, OnOk, option_copied, string_bytes};
+ghost use Rattle.http_header.specs.FieldValue.{is_visible_text};
 ghost use Rattle.json.specs.Print.{print};
 ghost use Rattle.td_http_api.specs.Answers.{IsAnswer, fault_text, health_answer};
 ghost use Rattle.td_http_api.specs.Tags.{IsUnanswered};
@@ -88,19 +89,26 @@ pub(crate) fn put_json(
     Ok(())
 }
 
-/// Puts a table in CSV into a response, whose status remains.
-pub(crate) fn put_table(response: &mut Response, table: String) -> Result<(), AllocError>
-    requires { IsUnanswered response.old }
-    ensures { OnOk result (IsAnswer (record { status = 200; text = string_bytes table })
+/// The type of a table in CSV.
+pub(crate) const CSV: &str = "text/csv; charset=utf-8";
+
+/// The type of the text format of Prometheus.
+pub(crate) const METRICS: &str = "text/plain; version=0.0.4; charset=utf-8";
+
+/// Puts a text of this type into a response, whose status remains.
+pub(crate) fn put_text(
+    response: &mut Response,
+    kind: &'static str,
+    text: String,
+) -> Result<(), AllocError>
+    requires kind { IsTrue (is_visible_text kind.now) }
+    requires unanswered { IsUnanswered response.old }
+    ensures { OnOk result (IsAnswer (record { status = 200; text = string_bytes text })
         response.new) }
 {
-    put(
-        response,
-        CONTENT_TYPE,
-        HeaderValue::from_static("text/csv; charset=utf-8"),
-    )?;
+    put(response, CONTENT_TYPE, HeaderValue::from_static(kind))?;
     put_common(response)?;
-    response.body.push(Bytes::from_string(table)?)
+    response.body.push(Bytes::from_string(text)?)
 }
 
 /// Puts words into a response, as the member `fault` of an object, with this status.

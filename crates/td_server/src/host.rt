@@ -1,10 +1,10 @@
 //! What the server of a site goes by, and the files beside its journal.
 
-use crate::token::open_token;
 use crate::words::ServerOptions;
 use std::alloc::AllocError;
 use td_alarms::Alarms;
 use td_arrivals::Arrivals;
+use td_client_tokens::ClientToken;
 use td_contacts::Contacts;
 use td_digested_sites::DigestedSite;
 use td_io::Device;
@@ -17,6 +17,7 @@ use td_site_messages::{push_journal, push_own_gap, push_start_alarms};
 use td_site_opening::{
     ExitStatus, OUT_OF_MEMORY, complain, find_mark, is_lacking, report_left_out,
 };
+use td_token_files::{TokenFile, TokenFileError};
 
 /// How an alarm is ended.
 const ALARM_HINT: &str = ", and the button on the page ends them";
@@ -83,19 +84,19 @@ impl Host<'_> {
         find_mark(self.rt.alloc(), self.rt, Some(self.journal))
     }
 
-    /// The token, or the exit status after a report why there is none.
-    pub(crate) fn open_token(self) -> Result<String, ExitStatus> {
+    /// The file of the tokens and what it has, or the exit status after a report why there are none.
+    pub(crate) fn open_tokens(self) -> Result<(TokenFile, Vec<ClientToken>), ExitStatus> {
         let alloc = self.rt.alloc();
         let journal = self.journal;
         let Ok(beside) = format!(in alloc; "{journal}.token") else {
             return Err(report_memory(self.rt));
         };
         let name = self.options.token_file.unwrap_or(beside.as_str());
-        match open_token(alloc, self.rt, name) {
-            Ok(token) => Ok(token),
+        match TokenFile::open(alloc, self.rt, name) {
+            Ok(opened) => Ok(opened),
+            Err(TokenFileError::OutOfMemory) => Err(report_memory(self.rt)),
             Err(error) => {
-                let why = error.words();
-                let _ = eprintln!(self.rt; "fault token {name}: {why}");
+                let _ = eprintln!(self.rt; "fault token {name}: {error}");
                 Err(ExitStatus::BadWords)
             }
         }

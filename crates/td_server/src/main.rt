@@ -2,13 +2,18 @@
 //! and calls them by itself.
 #![tactic(auto)]
 
+mod adding;
+mod addresses;
+mod bad_words;
 mod host;
+mod hosts;
 mod reopening;
 mod serving;
 mod start;
-mod token;
+mod token_words;
 mod words;
 
+use adding::add_new_token;
 use start::start_server;
 use std::env;
 use std::io::ErrorKind;
@@ -29,6 +34,7 @@ fn main(rt: HostRuntime) -> ExitCode {
     };
     match read_words(rt.alloc(), &words) {
         Given::Options(options) => ExitCode::from(start_server(&rt, &options) as u8),
+        Given::Token(token) => ExitCode::from(add_new_token(&rt, &token) as u8),
         Given::Help(text) => {
             let _ = print!(rt; "{}", text.as_str());
             ExitCode::SUCCESS

@@ -1,11 +1,13 @@
 //! A site that is served.
 
+use crate::addresses::{bare_secret, print_client_page, print_host_pages};
 use crate::host::{Host, JournaledSite, KeptSite, report_memory};
 use crate::words::ServerOptions;
 use std::alloc::{AllocError, Global};
 use std::net::SocketAddr;
 use std::os::fd::AsRawFd;
 use td_changes::Changes;
+use td_client_tokens::ClientToken;
 use td_digested_sites::{Digested, DigestedSite};
 use td_event_loop::{EventLoop, LoopOptions};
 use td_http_api::{Api, Guard};
@@ -28,18 +30,41 @@ fn add_hosts(
     Ok(())
 }
 
-// What lets requests in that name this address and show the token.
-fn guard_of(alloc: Global, address: SocketAddr, token: &str) -> Result<Guard, AllocError> {
-    let mut hosts = Vec::new(alloc);
-    match add_hosts(&mut hosts, alloc, address) {
-        Ok(()) => Guard::new(alloc, hosts, token),
-        Err(error) => Err(error),
+// Adds the hosts that the words name.
+fn add_named_hosts(
+    hosts: &mut Vec<String>,
+    alloc: Global,
+    named: &[&str],
+) -> Result<(), AllocError> {
+    for host in named {
+        hosts.push(String::from_str(alloc, host)?)?;
     }
+    Ok(())
 }
 
-// Says where it listens.
-fn print_addresses(rt: &HostRuntime, event_loop: &EventLoop, client: SocketAddr, token: &str) {
-    let _ = println!(rt; "http://{client}/#{token}");
+// The hosts by which this program is asked where it listens at this address.
+fn hosts_of(alloc: Global, address: SocketAddr, named: &[&str]) -> Result<Vec<String>, AllocError> {
+    let mut hosts = Vec::new(alloc);
+    add_hosts(&mut hosts, alloc, address)?;
+    add_named_hosts(&mut hosts, alloc, named)?;
+    Ok(hosts)
+}
+
+// Says where it listens, and with which token the page is opened, unless it is to be quiet.
+fn print_addresses(
+    rt: &HostRuntime,
+    event_loop: &EventLoop,
+    client: SocketAddr,
+    options: &ServerOptions<'_>,
+    tokens: &[ClientToken],
+) {
+    let secret = if options.is_quiet {
+        None
+    } else {
+        bare_secret(tokens)
+    };
+    print_client_page(rt, client, secret);
+    print_host_pages(rt, &options.hosts, secret);
     if let Ok(Some(peer)) = event_loop.peer_address() {
         let _ = println!(rt; "other sites: {peer}");
     }
@@ -83,9 +108,9 @@ fn run<'a, R: Changes + Catalogued + Trials + Digested + Drop>(
     let mut server = SiteServer::new(Api::new(rt.alloc(), desk, guard));
     match serve_site(event_loop, rt, &mut server) {
         Ok(()) => {
-            let (desk, guard) = server.into_api().into_parts();
+            let (mut desk, guard) = server.into_api().into_parts();
             if desk.is_stopping() {
-                desk.save_contacts();
+                desk.close();
                 return Err(ExitStatus::Success);
             }
             Ok((desk, guard))
@@ -104,14 +129,17 @@ fn without_site<'a, R: Drop>(desk: SiteDesk<'a, R, HostRuntime>) -> SiteDesk<'a,
 }
 
 // A desk that answers queries from what is complete of the journal.
-fn suspended<'a, R: Opens + Drop>(
+fn suspended<'a, R: Opens + Changes + Catalogued + Trials + Drop>(
     host: Host<'a>,
     desk: SiteDesk<'a, (), HostRuntime>,
 ) -> Result<SiteDesk<'a, DigestedSite<R>, HostRuntime>, ExitStatus> {
     let why = host.failure_text()?;
-    let _ = println!(host.rt; "fault {why}");
     let site = DigestedSite::new(host.rt.alloc(), host.open_read::<R>()?);
     let (_, mut desk) = desk.with_site(site);
+    match format!(in host.rt.alloc(); "fault {}", why.as_str()) {
+        Ok(line) => desk.report_fault(line.as_str()),
+        Err(_) => desk.report_fault(why.as_str()),
+    }
     let until = desk.now().saturating_add(host.try_time());
     desk.suspend(why, until);
     Ok(desk)
@@ -128,7 +156,7 @@ fn resumed<'a, R: Opens + Changes + Catalogued + Trials + Drop>(
     };
     let (_, mut desk) = desk.with_site(site);
     desk.resume(is_lacking);
-    let _ = println!(host.rt; "the journal is written again");
+    desk.report("the journal is written again");
     Ok(desk)
 }
 
@@ -185,17 +213,11 @@ fn run_kept<'a, R: Opens + Changes + Catalogued + Trials + Drop>(
 fn serve_by<'a, R: Opens + Changes + Catalogued + Trials + Drop>(
     host: Host<'a>,
     event_loop: &mut EventLoop,
-    token: &str,
+    guard: Guard,
     desk: SiteDesk<'a, JournaledSite<'a, R>, HostRuntime>,
 ) -> ExitStatus {
-    let Host { rt, options, .. } = host;
-    let client = event_loop.client_address().unwrap_or(options.clients);
-    let Ok(guard) = guard_of(rt.alloc(), client, token) else {
-        return report_memory(rt);
-    };
-    print_addresses(rt, event_loop, client, token);
-    if options.has_console {
-        watch_console(rt, event_loop);
+    if host.options.has_console {
+        watch_console(host.rt, event_loop);
     }
     match run_kept(host, event_loop, desk, guard) {
         Ok(()) => ExitStatus::Success,
@@ -203,14 +225,32 @@ fn serve_by<'a, R: Opens + Changes + Catalogued + Trials + Drop>(
     }
 }
 
+// What lets requests in to an event loop that listens; says where it does.
+fn guard_of(
+    host: Host<'_>,
+    event_loop: &EventLoop,
+    tokens: Vec<ClientToken>,
+) -> Result<Guard, ExitStatus> {
+    let Host { rt, options, .. } = host;
+    let client = event_loop.client_address().unwrap_or(options.clients);
+    let Ok(hosts) = hosts_of(rt.alloc(), client, &options.hosts) else {
+        return Err(report_memory(rt));
+    };
+    print_addresses(rt, event_loop, client, options, &tokens);
+    Ok(Guard::new(hosts, tokens))
+}
+
 /// Serves the site until the program is to end.
 pub(crate) fn serve<'a, R: Opens + Changes + Catalogued + Trials + Drop>(
     host: Host<'a>,
-    token: &str,
+    tokens: Vec<ClientToken>,
     desk: SiteDesk<'a, JournaledSite<'a, R>, HostRuntime>,
 ) -> ExitStatus {
-    match listen(host.rt, host.options) {
-        Some(mut event_loop) => serve_by(host, &mut event_loop, token, desk),
-        None => ExitStatus::Fault,
+    let Some(mut event_loop) = listen(host.rt, host.options) else {
+        return ExitStatus::Fault;
+    };
+    match guard_of(host, &event_loop, tokens) {
+        Ok(guard) => serve_by(host, &mut event_loop, guard, desk),
+        Err(status) => status,
     }
 }

@@ -8,6 +8,7 @@ use crate::words::ServerOptions;
 use std::alloc::AllocError;
 use std::random::RandomSource;
 use td_changes::Changes;
+use td_client_tokens::ClientToken;
 use td_io::Device;
 use td_journal::{StoreError, keep_journal};
 use td_journal_files::{FileJournals, Notes};
@@ -19,6 +20,7 @@ use td_site_opening::{
     ExitStatus, ScriptFile, SiteJournal, StartFault, journal_name, open_new, prepare_journal,
     read_script, report, report_unkept,
 };
+use td_token_files::TokenFile;
 use td_trials::Trials;
 
 // Reports why there is no site, and returns the exit status.
@@ -41,6 +43,7 @@ impl<'a> Host<'a> {
         site: R,
         meter: Meter,
         lists: Lists,
+        tokens: TokenFile,
     ) -> Result<SiteDesk<'a, R, HostRuntime>, AllocError> {
         let alloc = self.rt.alloc();
         let is_lacking = self.report_journal(&site)?;
@@ -58,6 +61,8 @@ impl<'a> Host<'a> {
             alarms: lists.alarms,
             arrivals: lists.arrivals,
             contacts: lists.contacts,
+            tokens,
+            journal: self.journal,
             is_lacking,
             start: new_number(self.rt),
             mark: self.find_mark()?,
@@ -65,10 +70,11 @@ impl<'a> Host<'a> {
         SiteDesk::new(alloc, parts)
     }
 
-    // Serves a site that came back from its journal, to clients that show the token.
-    fn serve_by_token<R: Opens + Changes + Catalogued + Trials + Drop>(
+    // Serves a site that came back from its journal, to clients that show a token.
+    fn serve_by_tokens<R: Opens + Changes + Catalogued + Trials + Drop>(
         self,
-        token: &str,
+        token_file: TokenFile,
+        tokens: Vec<ClientToken>,
         site: JournaledSite<'a, R>,
         meter: Meter,
     ) -> ExitStatus {
@@ -76,8 +82,8 @@ impl<'a> Host<'a> {
             Ok(lists) => lists,
             Err(status) => return status,
         };
-        match self.desk_of(site, meter, lists) {
-            Ok(desk) => serve(self, token, desk),
+        match self.desk_of(site, meter, lists, token_file) {
+            Ok(desk) => serve(self, tokens, desk),
             Err(_) => report_memory(self.rt),
         }
     }
@@ -88,8 +94,8 @@ impl<'a> Host<'a> {
         site: JournaledSite<'a, R>,
         meter: Meter,
     ) -> ExitStatus {
-        match self.open_token() {
-            Ok(token) => self.serve_by_token(token.as_str(), site, meter),
+        match self.open_tokens() {
+            Ok((token_file, tokens)) => self.serve_by_tokens(token_file, tokens, site, meter),
             Err(status) => status,
         }
     }

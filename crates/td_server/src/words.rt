@@ -1,8 +1,11 @@
 //! The words of the program.
 
+use crate::bad_words::BadWords;
+use crate::hosts::{check_clients, host_list, hosts_in};
+use crate::token_words::{NewToken, TOKEN, new_token_in, token_command};
 use clap::builder::ValueParser;
 use clap::{Arg, ArgMatches, Command, Error};
-use std::alloc::{AllocError, AllocFailed, Global};
+use std::alloc::{AllocError, Global};
 use std::net::{IpAddr, SocketAddr};
 use td_site_opening::{
     Demand, SiteOptions, flag, list, option, site_options, with_journal, with_site,
@@ -13,14 +16,24 @@ SCRIPT has the definitions. The program prints the address of its page with a to
 behind #, and a line for each meeting and fault. POST /api/stop ends it, and with
 --console a line stop on standard input.
 
+td_server token NAME RIGHTS --token-file FILE adds a token for a person or a program;
+td_server token --help says more.
+
 An ADDRESS is numbers and a port, as 127.0.0.1:7001 or [::1]:7001. Peers are not asked
 who they are: serve them on a network of your own, or name them by --allow.";
+
+// The address at which the server listens for clients where none is given.
+const CLIENTS: &str = "127.0.0.1:7080";
 
 /// What the words ask for.
 #[derive(Drop)]
 pub(crate) struct ServerOptions<'a> {
     pub site: SiteOptions<'a>,
     pub clients: SocketAddr,
+    /// The names by which browsers and programs ask for the server, besides those of the loopback.
+    pub hosts: Vec<&'a str>,
+    /// Whether no token is printed.
+    pub is_quiet: bool,
     pub peers: Option<SocketAddr>,
     pub calls: Vec<SocketAddr>,
     pub allowed: Vec<IpAddr>,
@@ -28,7 +41,7 @@ pub(crate) struct ServerOptions<'a> {
     pub every: u64,
     /// For how many seconds a journal that failed is tried again.
     pub give_up: u64,
-    /// The name of the file that has the token, if it is none beside the journal.
+    /// The name of the file that has the tokens, if it is none beside the journal.
     pub token_file: Option<&'a str>,
     /// Whether lines of standard input are read.
     pub has_console: bool,
@@ -38,41 +51,27 @@ pub(crate) struct ServerOptions<'a> {
 #[derive(Drop)]
 pub enum Given<'a> {
     Options(ServerOptions<'a>),
+    /// A token is to be added to a file.
+    Token(NewToken<'a>),
     /// A text that the words ask for.
     Help(String),
     /// Why the words are refused; empty if memory ran out.
     Refused(String),
 }
 
-/// Why words that fit the options are refused.
-#[derive(Clone, Copy)]
-enum BadWords<'a> {
-    OutOfMemory,
-    /// The word of an option is no address.
-    NoAddress { option: &'static str, word: &'a str },
-}
-
-impl From<AllocError> for BadWords<'_> {
-    fn from(_e: AllocError) -> Self {
-        BadWords::OutOfMemory
-    }
-}
-
-impl<T: Drop> From<AllocFailed<T>> for BadWords<'_> {
-    fn from(_e: AllocFailed<T>) -> Self {
-        BadWords::OutOfMemory
-    }
-}
-
-fn clients_option<'a>(alloc: Global) -> Arg<'a> {
-    option(alloc, "clients", "ADDRESS", "Where it listens for clients").default_value(
-        "127.0.0.1:7080",
-    )
+/// The option that says where the server listens for clients.
+pub(crate) fn clients_option<'a>(alloc: Global) -> Arg<'a> {
+    option(alloc, "clients", "ADDRESS", "Where it listens for clients").default_value(CLIENTS)
 }
 
 fn token_option<'a>(alloc: Global) -> Arg<'a> {
-    let help = "Has the token that clients show; the journal's name with .token if left out";
+    let help = "Has the tokens that clients show; the journal's name with .token if left out";
     option(alloc, "token-file", "FILE", help)
+}
+
+fn quiet_flag<'a>(alloc: Global) -> Arg<'a> {
+    let help = "Prints the address of its page without a token";
+    flag(alloc, "quiet", help)
 }
 
 fn console_flag<'a>(alloc: Global) -> Arg<'a> {
@@ -118,13 +117,18 @@ fn allow_list<'a>(alloc: Global) -> Arg<'a> {
     list(alloc, "allow", "ADDRESS", help)
 }
 
-// Adds whom it serves, and who may end it.
+// Adds whom it serves.
 fn with_clients<'a>(alloc: Global, command: Command<'a>) -> Result<Command<'a>, AllocError> {
     command
         .arg(clients_option(alloc))?
+        .arg(host_list(alloc))?
         .arg(token_option(alloc))?
-        .arg(console_flag(alloc))?
-        .arg(give_up_option(alloc))
+        .arg(quiet_flag(alloc))
+}
+
+// Adds who may end it, and when it ends by itself.
+fn with_ends<'a>(alloc: Global, command: Command<'a>) -> Result<Command<'a>, AllocError> {
+    command.arg(console_flag(alloc))?.arg(give_up_option(alloc))
 }
 
 // Adds whom it meets.
@@ -145,6 +149,7 @@ fn command<'a>(alloc: Global) -> Result<Command<'a>, AllocError> {
     let command = with_site(alloc, command, Demand::Required)?;
     let command = with_journal(alloc, command, Demand::Required)?;
     let command = with_clients(alloc, command)?;
+    let command = with_ends(alloc, command)?;
     with_peers(alloc, command)
 }
 
@@ -154,6 +159,17 @@ fn address_in<'a>(option: &'static str, word: &'a str) -> Result<SocketAddr, Bad
         Ok(address) => Ok(address),
         Err(_) => Err(BadWords::NoAddress { option, word }),
     }
+}
+
+/// Where the server listens for clients, as the words say, which name these hosts.
+pub(crate) fn clients_in<'a>(
+    matches: &ArgMatches<'a>,
+    hosts: &[&'a str],
+) -> Result<SocketAddr, BadWords<'a>> {
+    let word = matches.get_str("clients").unwrap_or(CLIENTS);
+    let clients = address_in("clients", word)?;
+    check_clients(clients, hosts, word)?;
+    Ok(clients)
 }
 
 // The address that the word of an option says, if it is given.
@@ -201,13 +217,16 @@ fn options_in<'a>(
     alloc: Global,
     matches: &ArgMatches<'a>,
 ) -> Result<ServerOptions<'a>, BadWords<'a>> {
-    let clients = address_in("clients", matches.get_str("clients").unwrap_or(""))?;
+    let hosts = hosts_in(alloc, matches)?;
+    let clients = clients_in(matches, &hosts)?;
     let peers = optional_address("peers", matches.get_str("peers"))?;
     let calls = calls_in(alloc, matches.get_strs("call").unwrap_or(&[]))?;
     let allowed = allowed_in(alloc, matches.get_strs("allow").unwrap_or(&[]))?;
     Ok(ServerOptions {
         site: site_options(matches),
         clients,
+        hosts,
+        is_quiet: matches.get_flag("quiet"),
         peers,
         calls,
         allowed,
@@ -216,17 +235,6 @@ fn options_in<'a>(
         token_file: matches.get_str("token-file"),
         has_console: matches.get_flag("console"),
     })
-}
-
-// Why words that fit the options are refused; empty if memory ran out.
-fn refusal_text(alloc: Global, error: BadWords<'_>) -> String {
-    let BadWords::NoAddress { option, word } = error else {
-        return String::new(alloc);
-    };
-    match format!(in alloc; "error: --{option} {word}: this is no address\n") {
-        Ok(text) => text,
-        Err(_) => String::new(alloc),
-    }
 }
 
 // What is said in place of a run: a text that the words ask for, or why they are refused.
@@ -241,16 +249,41 @@ fn given_of_error<'a>(alloc: Global, error: &Error) -> Given<'a> {
     }
 }
 
-/// What the words ask for, the first of which names the program.
-pub fn read_words<'a>(alloc: Global, words: &'a [String]) -> Given<'a> {
+// What the words of a server ask for, the first of which names the program.
+fn read_server_words<'a>(alloc: Global, words: &'a [String]) -> Given<'a> {
     let Ok(command) = command(alloc) else {
         return Given::Refused(String::new(alloc));
     };
     match command.try_get_matches_from(words) {
         Ok(matches) => match options_in(alloc, &matches) {
             Ok(options) => Given::Options(options),
-            Err(error) => Given::Refused(refusal_text(alloc, error)),
+            Err(error) => Given::Refused(error.text(alloc)),
         },
         Err(error) => given_of_error(alloc, &error),
+    }
+}
+
+// What the words after `token` ask for.
+fn read_token_words<'a>(alloc: Global, words: &'a [String]) -> Given<'a> {
+    let Ok(command) = token_command(alloc) else {
+        return Given::Refused(String::new(alloc));
+    };
+    match command.try_get_matches_from(words) {
+        Ok(matches) => match new_token_in(alloc, &matches) {
+            Ok(token) => Given::Token(token),
+            Err(error) => Given::Refused(error.text(alloc)),
+        },
+        Err(error) => given_of_error(alloc, &error),
+    }
+}
+
+/// What the words ask for, the first of which names the program. A script whose name is `token` is given as `./token`.
+pub fn read_words<'a>(alloc: Global, words: &'a [String]) -> Given<'a> {
+    let Some((_, rest)) = words.split_first() else {
+        return read_server_words(alloc, words);
+    };
+    match rest.first() {
+        Some(word) if word.as_str() == TOKEN => read_token_words(alloc, rest),
+        _ => read_server_words(alloc, words),
     }
 }

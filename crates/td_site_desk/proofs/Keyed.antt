@@ -1,9 +1,9 @@
 -- What the statements of a desk add, and that each key acts once.
-use Rattle.std.proofs.Common.{◌≡◌, ◌∙◌, ℕ, ◌⊎◌, ◌≤◌, ◌==◌, true, false, nat_lt, cond, if◌then◌else◌, List, [], ◌∷◌, ◌++◌, length, filter, Option, Some, None, option_copied, option_map, Result, Ok, Err, IfOk, inl, inr, ⊎_elim, refl, sym, ap, subst, arith, append-nil}
+use Rattle.std.proofs.Common.{◌≡◌, ◌∙◌, ℕ, ◌⊎◌, ◌≤◌, ◌==◌, Bool, true, false, nat_lt, cond, if◌then◌else◌, List, [], ◌∷◌, ◌++◌, length, filter, Option, Some, None, option_copied, option_map, Result, Ok, Err, IfOk, inl, inr, ⊎_elim, refl, sym, ap, subst, arith, append-nil}
 use Rattle.std.specs.Borrow.{Bor}
 use Rattle.std.specs.List.{Contains}
 use Rattle.std.proofs.lemmas.Bool.{and_right}
-use Rattle.std.proofs.lemmas.List.Elements.{Contains-push, filter-append}
+use Rattle.std.proofs.lemmas.List.Elements.{Contains-push, Contains-push_cases, filter-append}
 use Rattle.td_http_api.specs.Answers.{Answer}
 use Rattle.td_http_api.specs.declared.calls.ApiCall.{ApiCall}
 use Rattle.td_http_api.specs.declared.calls.ApiCall.TheVariants.{Statement}
@@ -14,12 +14,14 @@ use Rattle.td_replica.specs.declared.refusal.IssueError.{IssueError}
 use Rattle.td_replica.specs.declared.refusal.IssueError.TheVariants as issue_error
 use Rattle.td_stamps.specs.Checks.{next_of}
 use Rattle.td_stamps.specs.declared.entry.Entry.{Entry}
+use Rattle.td_statement_keys.specs.Authors.{IsSignedBy, is_signed, signed_text}
 use Rattle.td_statement_keys.specs.Keys.{is_keyed_text, is_own_keyed, issued_text, keyed_entry}
 use Rattle.td_statement_keys.specs.Laws.{EachOnce, KeyedStep}
 use Rattle.td_statement_keys.proofs.Found.{found_are_held}
+use Rattle.td_statement_keys.proofs.Names.{names_are_kept, names_are_no_keys}
 use Rattle.td_statement_keys.proofs.Once.{each_key_acts_once}
-use Rattle.td_site_desk.specs.Laws.{AnsweredAreHeld, DeskSteps, HoldsOwn, IsCall, IsPlain, KeepsOwnKeyed, KeysActOnce}
-use Rattle.td_site_desk.specs.Sites.{AnswersStatement, AnswersUnlessFailing, Changes, IsStatusOf, known_entry}
+use Rattle.td_site_desk.specs.Laws.{AddedHaveTheName, AnsweredAreHeld, DeskSteps, HoldsOwn, IsCall, IsPlain, KeepsOwnKeyed, KeysActOnce}
+use Rattle.td_site_desk.specs.Sites.{AnswersStatement, AnswersUnlessFailing, AnswersUnsigned, Changes, IsStatusOf, known_entry}
 
 -- ---- what an issue adds
 
@@ -102,11 +104,44 @@ known_is_held s (Some key) e found =
     let is = found_are_held s.site key s.entries e found in
     (is.0, is.1)
 
+unsigned_is_held : (signed : Bool) (key name : Option (List ℕ)) (old : Seen) (text : List ℕ) (status : ℕ) (new : Seen)
+    → AnswersUnsigned signed key name old text (Some status) new → status ≡ 200 → HoldsOwn new (issued_text key (signed_text name text))
+unsigned_is_held true key name old text status new unissued is = absurd (never status unissued.answered is)
+unsigned_is_held false key name old text status new answers is =
+    answer_is_held (known_entry old key) old (issued_text key (signed_text name text)) status new (known_is_held old key) answers is
+
 pub answered_are_held : AnsweredAreHeld
-answered_are_held (Some why) text key answer old new changes is = absurd (never answer.status changes.answered is)
-answered_are_held None text key answer old new changes is =
-    answer_is_held (known_entry old (option_copied key)) old (issued_text (option_copied key) text.now) answer.status new
-    (known_is_held old (option_copied key)) changes is
+answered_are_held (Some why) text key author answer old new changes is = absurd (never answer.status changes.answered is)
+answered_are_held None text key author answer old new changes is =
+    unsigned_is_held (is_signed text.now) (option_copied key) (option_copied author) old text.now answer.status new changes is
+
+-- ---- what is added has the comment of the name
+
+answer_adds : (known : Option Entry) (old : Seen) (text : List ℕ) (status : Option ℕ) (new : Seen) → AnswersStatement known old text status new → Adds old text new
+answer_adds None old text status new (inl i) = issue_adds old text i.result new i.issues
+answer_adds None old text status new (inr u) = adds_none old text new u.kept
+answer_adds (Some e) old text status new k = adds_none old text new k.kept
+
+kept_or_named : (name : Option (List ℕ)) (old : Seen) (text : List ℕ) (new : Seen) → IsSignedBy name text → Adds old text new
+    → (e : Entry) → Contains new.entries e → Contains old.entries e ⊎ IsSignedBy name e.text
+kept_or_named name old text new signed (site, inl same) e held = inl (subst (λ es. Contains es e) same held)
+kept_or_named name old text new signed (site, inr added) e held =
+    ⊎_elim
+    (λ before. inl before)
+    (λ (is : added.0 ≡ e). inr (subst (IsSignedBy name) (sym added.1.1 ∙ ap (λ (x : Entry). x.text) is) signed))
+    (Contains-push_cases old.entries added.0 e (subst (λ es. Contains es e) added.2 held))
+
+unsigned_adds_named : (signed : Bool) (key name : Option (List ℕ)) (old : Seen) (text : List ℕ) (status : Option ℕ) (new : Seen) → is_signed text ≡ signed
+    → AnswersUnsigned signed key name old text status new → (e : Entry) → Contains new.entries e → Contains old.entries e ⊎ IsSignedBy name e.text
+unsigned_adds_named true key name old text status new is unissued e held = inl (subst (λ (s : Seen). Contains s.entries e) unissued.kept held)
+unsigned_adds_named false key name old text status new is answers e held =
+    let issued = issued_text key (signed_text name text) in
+    kept_or_named name old issued new (names_are_kept key name text is) (answer_adds (known_entry old key) old issued status new answers) e held
+
+pub added_have_the_name : AddedHaveTheName
+added_have_the_name (Some why) text key author answer old new changes e held = inl (subst (λ (s : Seen). Contains s.entries e) changes.kept held)
+added_have_the_name None text key author answer old new changes e held =
+    unsigned_adds_named (is_signed text.now) (option_copied key) (option_copied author) old text.now (option_map (λ a. a.status) answer) new refl changes e held
 
 -- ---- each key acts once
 
@@ -142,16 +177,28 @@ plain_answer_steps : (old : Seen) (text : List ℕ) (status : Option ℕ) (new :
 plain_answer_steps old text status new plain (inl i) = plain_steps old text new plain (issue_adds old text i.result new i.issues)
 plain_answer_steps old text status new plain (inr u) = same_steps old new u.kept
 
-statement_steps : (failing : Option (List ℕ)) (text : Bor (List ℕ)) (key : Option (Bor (List ℕ))) (status : Option ℕ) (old new : Seen)
-    → IsPlain (Statement text key) → AnswersUnlessFailing failing (option_copied key) old text.now status new → Steps old new
-statement_steps (Some why) text key status old new plain changes = same_steps old new changes.kept
-statement_steps None text None status old new plain changes = plain_answer_steps old text.now status new plain changes
-statement_steps None text (Some key) status old new plain changes =
-    answer_steps (keyed_entry old.site key.now old.entries) old key.now text.now status new refl changes
+-- without a key, what is issued has none
+plain_signed : (text : Bor (List ℕ)) (author : Option (Bor (List ℕ))) → IsPlain (Statement text None author) → is_keyed_text (signed_text (option_copied author) text.now) ≡ false
+plain_signed text None plain = plain
+plain_signed text (Some author) plain = names_are_no_keys author.now text.now
+
+unsigned_steps : (signed : Bool) (text : Bor (List ℕ)) (key author : Option (Bor (List ℕ))) (status : Option ℕ) (old new : Seen)
+    → IsPlain (Statement text key author) → AnswersUnsigned signed (option_copied key) (option_copied author) old text.now status new → Steps old new
+unsigned_steps true text key author status old new plain unissued = same_steps old new unissued.kept
+unsigned_steps false text None author status old new plain answers =
+    plain_answer_steps old (signed_text (option_copied author) text.now) status new (plain_signed text author plain) answers
+unsigned_steps false text (Some key) author status old new plain answers =
+    answer_steps (keyed_entry old.site key.now old.entries) old key.now (signed_text (option_copied author) text.now) status new refl answers
+
+statement_steps : (failing : Option (List ℕ)) (text : Bor (List ℕ)) (key author : Option (Bor (List ℕ))) (status : Option ℕ) (old new : Seen)
+    → IsPlain (Statement text key author) → AnswersUnlessFailing failing (option_copied key) (option_copied author) old text.now status new → Steps old new
+statement_steps (Some why) text key author status old new plain changes = same_steps old new changes.kept
+statement_steps None text key author status old new plain changes =
+    unsigned_steps (is_signed text.now) text key author status old new plain changes
 
 call_steps : (failing : Option (List ℕ)) (call : ApiCall) (answer : Option Answer) (old new : Seen) → IsPlain call → Changes failing call answer old new → Steps old new
-call_steps failing (Statement text key) answer old new plain changes =
-    statement_steps failing text key (option_map (λ a. a.status) answer) old new plain changes
+call_steps failing (Statement text key author) answer old new plain changes =
+    statement_steps failing text key author (option_map (λ a. a.status) answer) old new plain changes
 call_steps failing _ answer old new plain changes = same_steps old new changes
 
 steps_once : (old new : Seen) → Steps old new → EachOnce old.site old.entries → EachOnce new.site new.entries

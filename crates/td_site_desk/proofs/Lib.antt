@@ -1,3 +1,4 @@
 mod Keyed
+mod Rights
 pub mod Runs
 mod Told

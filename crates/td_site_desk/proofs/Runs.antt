@@ -1,8 +1,8 @@
 -- A run of the loop over a server is a chain of steps of its site.
-use Rattle.std.proofs.Common.{◌≡◌, inl, inr, ℕ, List, ap, ◌∙◌, refl, subst}
+use Rattle.std.proofs.Common.{◌≡◌, inl, inr, ℕ, List, ap}
 use Rattle.http.specs.declared.request.Request.{Request}
 use Rattle.http_server.specs.declared.response.Response.{Response}
-use Rattle.td_event_loop.specs.Chains.{Chain, nothing, onward}
+use Rattle.td_event_loop.specs.Chains.{Chain}
 use Rattle.td_event_loop.specs.Runs.{LoopPasses, LoopState}
 use Rattle.td_event_loop.proofs.Shown.{chain_of_run}
 use Rattle.td_http_api.specs.Answers.{Answering, Failing, Revising}
@@ -12,13 +12,6 @@ use Rattle.td_replica.specs.Seen.{Seen}
 use Rattle.td_site_desk.specs.Meetings.{Finishes, Settles}
 use Rattle.td_site_desk.specs.Runs.{GuardedStep, SiteStep, stays, called, settled, finished}
 use Rattle.td_site_desk.specs.Sites.{Changes}
-
--- the guard is the same over a chain of steps that keep it
-of_guarded : (x y : Guard × Seen) → Chain GuardedStep x y → (y.0 ≡ x.0) × Chain (SiteStep x.0) x.1 y.1
-of_guarded x y nothing = (refl, nothing)
-of_guarded x y (onward {t} step rest) =
-    let later = of_guarded t y rest in
-    (later.0 ∙ step.0, onward step.1 (subst (λ guard. Chain (SiteStep guard) t.1 y.1) step.0 later.1))
 
 module _ {D : Type 0} (seen : D → Seen) (failing : Failing D) (revision : Revising D) where
   -- a call of a desk changes its site
@@ -37,16 +30,15 @@ module _ {D : Type 0} (seen : D → Seen) (failing : Failing D) (revision : Revi
   of_request guard old request response new (inr (inr (inr (inr (inr (is, inr makes)))))) =
       called request makes.1.call (failing old) makes.0 makes.1.fits makes.1.answered
 
-  -- Each step of the server keeps its guard: so over a run one guard lets all requests in.
+  -- each step of the server is one under its guard
   pub site_run : {S : Type 0} (guard_of : S → Guard) (desk_of : S → D) (old new : LoopState S)
       → LoopPasses (λ s (request : Request (List ℕ)) (response : Response) t. Leads site_answers failing revision (guard_of s) (desk_of s) request response (guard_of t) (desk_of t))
-      (λ s t. (guard_of t ≡ guard_of s) × (seen (desk_of t) ≡ seen (desk_of s)))
+      (λ s t. ((guard_of t).hosts ≡ (guard_of s).hosts) × (seen (desk_of t) ≡ seen (desk_of s)))
       (λ s reply step t. (guard_of t ≡ guard_of s) × Settles (seen (desk_of s)) reply step (seen (desk_of t)))
       (λ s entries t. (guard_of t ≡ guard_of s) × Finishes (seen (desk_of s)) entries (seen (desk_of t))) old new
-      → (guard_of new.server ≡ guard_of old.server) × Chain (SiteStep (guard_of old.server)) (seen (desk_of old.server)) (seen (desk_of new.server))
+      → Chain GuardedStep (guard_of old.server, seen (desk_of old.server)) (guard_of new.server, seen (desk_of new.server))
   site_run guard_of desk_of old new steps =
-      of_guarded (guard_of old.server, seen (desk_of old.server)) (guard_of new.server, seen (desk_of new.server))
-      (chain_of_run _ _ _ _ (λ s. (guard_of s, seen (desk_of s))) GuardedStep
-      (λ s t request response leads. (leads.0, of_request (guard_of s) (desk_of s) request response (desk_of t) leads.1))
-      (λ s t keep. (keep.0, stays keep.1)) (λ s t reply step read. (read.0, settled reply step read.1)) (λ s t entries read. (read.0, finished entries read.1))
-      old new steps)
+      chain_of_run _ _ _ _ (λ s. (guard_of s, seen (desk_of s))) GuardedStep
+      (λ s t request response leads. inl (leads.0, of_request (guard_of s) (desk_of s) request response (desk_of t) leads.1))
+      (λ s t keep. inr keep) (λ s t reply step read. inl (read.0, settled reply step read.1)) (λ s t entries read. inl (read.0, finished entries read.1))
+      old new steps

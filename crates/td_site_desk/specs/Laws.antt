@@ -1,11 +1,15 @@
 -- What holds over all statements of a desk.
 use Rattle.std.specs.Prelude.{◌≡◌, ◌⊎◌, ℕ, false, List, [], ◌∷◌, Option, Some, None, Contains, option_copied}
 use Rattle.std.specs.Borrow.{Bor}
+use Rattle.td_client_tokens.specs.declared.rights.Rights.TheVariants.{Read, All}
+use Rattle.td_client_tokens.specs.declared.token.ClientToken.{ClientToken}
 use Rattle.td_http_api.specs.Answers.{Answer}
+use Rattle.td_http_api.specs.Rights.{MayMake}
 use Rattle.td_http_api.specs.declared.calls.ApiCall.{ApiCall}
-use Rattle.td_http_api.specs.declared.calls.ApiCall.TheVariants.{Statement}
+use Rattle.td_http_api.specs.declared.calls.ApiCall.TheVariants.{Meet, Statement, Stop}
 use Rattle.td_replica.specs.Seen.{Seen}
 use Rattle.td_stamps.specs.declared.entry.Entry.{Entry}
+use Rattle.td_statement_keys.specs.Authors.{IsSignedBy, signed_text}
 use Rattle.td_statement_keys.specs.Keys.{is_keyed_text, issued_text}
 use Rattle.td_statement_keys.specs.Laws.{EachOnce, KeepsKeyed}
 use Rattle.td_site_desk.specs.Sites.{Changes}
@@ -20,13 +24,32 @@ pub record HoldsOwn (s : Seen) (text : List ℕ) : Type 0 where
 -- where a statement is answered with 200, the site holds it
 abbrev pub AnsweredAreHeld : Type 0
 AnsweredAreHeld =
-    (failing : Option (List ℕ)) (text : Bor (List ℕ)) (key : Option (Bor (List ℕ))) (answer : Answer) (old new : Seen)
-    → Changes failing (Statement text key) (Some answer) old new → answer.status ≡ 200
-    → HoldsOwn new (issued_text (option_copied key) text.now)
+    (failing : Option (List ℕ)) (text : Bor (List ℕ)) (key author : Option (Bor (List ℕ))) (answer : Answer) (old new : Seen)
+    → Changes failing (Statement text key author) (Some answer) old new → answer.status ≡ 200
+    → HoldsOwn new (issued_text (option_copied key) (signed_text (option_copied author) text.now))
 
--- a statement without a key does not begin with the comment of one
+-- an entry that a statement adds has the comment of the name of its token, or of none
+abbrev pub AddedHaveTheName : Type 0
+AddedHaveTheName =
+    (failing : Option (List ℕ)) (text : Bor (List ℕ)) (key author : Option (Bor (List ℕ))) (answer : Option Answer) (old new : Seen)
+    → Changes failing (Statement text key author) answer old new
+    → (entry : Entry) → Contains new.entries entry → Contains old.entries entry ⊎ IsSignedBy (option_copied author) entry.text
+
+-- a call by a token that may only read leaves the site as it was
+abbrev pub ReadersChangeNothing : Type 0
+ReadersChangeNothing =
+    (token : ClientToken) (call : ApiCall) (failing : Option (List ℕ)) (answer : Option Answer) (old new : Seen)
+    → token.rights ≡ Read → MayMake token call → Changes failing call answer old new → new ≡ old
+
+-- a call by a token that may only read or write has no peer called, and does not end the program
+abbrev pub WritersOnlyWrite : Type 0
+WritersOnlyWrite =
+    (token : ClientToken) (call : ApiCall) → ¬ (token.rights ≡ All) → MayMake token call
+    → ¬ (call ≡ Stop) × ((address : Bor (List ℕ)) → ¬ (call ≡ Meet address))
+
+-- a statement without a key, by a token without a name, does not begin with the comment of a key
 abbrev pub IsPlain : ApiCall → Type 0
-IsPlain (Statement text None) = is_keyed_text text.now ≡ false
+IsPlain (Statement text None None) = is_keyed_text text.now ≡ false
 IsPlain _ = Unit {0}
 
 -- a call of a desk

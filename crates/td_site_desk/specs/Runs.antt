@@ -1,5 +1,5 @@
 -- What a site goes through while its server runs.
-use Rattle.std.specs.Prelude.{◌≡◌, ℕ, List, Option}
+use Rattle.std.specs.Prelude.{◌≡◌, ◌⊎◌, ℕ, List, Option}
 use Rattle.http.specs.declared.request.Request.{Request}
 use Rattle.td_event_loop.specs.declared.meets.StepResult.{StepResult}
 use Rattle.td_http_api.specs.Answers.{Answer}
@@ -19,6 +19,9 @@ pub data SiteStep (guard : Guard) : Seen → Seen → Type 0 where
   settled : {s t : Seen} (reply : List ℕ) (step : StepResult) → Settles s reply step t → SiteStep guard s t
   finished : {s t : Seen} (entries : List ℕ) → Finishes s entries t → SiteStep guard s t
 
--- the step, where a guard lets requests in that the step keeps
+-- A step under the guard that lets requests in then: it is the same after the step, or its tokens are other ones and the
+-- site is as it was.
 abbrev pub GuardedStep : Guard × Seen → Guard × Seen → Type 0
-GuardedStep old new = (new.0 ≡ old.0) × SiteStep old.0 old.1 new.1
+GuardedStep old new =
+    ((new.0 ≡ old.0) × SiteStep old.0 old.1 new.1)
+    ⊎ ((new.0.hosts ≡ old.0.hosts) × (new.1 ≡ old.1))

@@ -9,6 +9,7 @@ use Rattle.td_replica.specs.declared.calls.Issued.{Issued}
 use Rattle.td_replica.specs.declared.refusal.IssueError.{IssueError}
 use Rattle.td_site_messages.specs.declared.wording.TheConstants.{BROKEN, LACKING}
 use Rattle.td_stamps.specs.declared.entry.Entry.{Entry}
+use Rattle.td_statement_keys.specs.Authors.{is_signed, signed_text}
 use Rattle.td_statement_keys.specs.Keys.{issued_text, keyed_entry}
 
 -- how many statements an open site holds
@@ -57,13 +58,20 @@ failing_of None false is_lacking = Some BROKEN.now
 failing_of None true true = Some LACKING.now
 failing_of None true false = None
 
--- what comes of a statement, if the site takes statements, and if not
-abbrev pub AnswersUnlessFailing : Option (List ℕ) → Option (List ℕ) → Seen → List ℕ → Option ℕ → Seen → Type 0
-AnswersUnlessFailing (Some why) key old text status new = IsUnissued old status new
-AnswersUnlessFailing None key old text status new = AnswersStatement (known_entry old key) old (issued_text key text) status new
+-- What comes of a statement, by whether it has the comment of a name already: that is not issued. Else the comment of the
+-- token's name comes first, and that of the key before it.
+abbrev pub AnswersUnsigned : Bool → Option (List ℕ) → Option (List ℕ) → Seen → List ℕ → Option ℕ → Seen → Type 0
+AnswersUnsigned true key name old text status new = IsUnissued old status new
+AnswersUnsigned false key name old text status new =
+    AnswersStatement (known_entry old key) old (issued_text key (signed_text name text)) status new
+
+-- what comes of a statement by a token of this name, if the site takes statements, and if not
+abbrev pub AnswersUnlessFailing : Option (List ℕ) → Option (List ℕ) → Option (List ℕ) → Seen → List ℕ → Option ℕ → Seen → Type 0
+AnswersUnlessFailing (Some why) key name old text status new = IsUnissued old status new
+AnswersUnlessFailing None key name old text status new = AnswersUnsigned (is_signed text) key name old text status new
 
 -- a statement is answered, where the site takes none by a fault; every other call leaves the site as it was
 abbrev pub Changes : Option (List ℕ) → ApiCall → Option Answer → Seen → Seen → Type 0
-Changes failing (Statement text key) answer old new =
-    AnswersUnlessFailing failing (option_copied key) old text.now (option_map (λ a. a.status) answer) new
+Changes failing (Statement text key author) answer old new =
+    AnswersUnlessFailing failing (option_copied key) (option_copied author) old text.now (option_map (λ a. a.status) answer) new
 Changes failing _ answer old new = new ≡ old

@@ -14,13 +14,13 @@ const MOST_LINE_BYTES: usize = 1_024;
 /// The most bytes that one read takes.
 const MOST_READ_BYTES: usize = 1_024;
 
-const UNKNOWN_WORDS: &str = "this is no line of the console: write stop, which ends the program\n";
+const UNKNOWN_WORDS: &str = "this is no line of the console: write stop, which ends the program";
 
 const TOO_LONG_WORDS: &str =
-    "a line of the console has at most 1,024 bytes: write stop, which ends the program\n";
+    "a line of the console has at most 1,024 bytes: write stop, which ends the program";
 
 /// What a line asks for.
-#[derive(Clone, Copy, Debug, PartialEq, Eq)]
+#[derive(Clone, Copy)]
 pub(crate) enum ConsoleLine {
     /// The program is to end.
     Stop,
@@ -91,8 +91,8 @@ impl<R: Changes + Catalogued + Drop, H: Runtime + AllocGlobal> SiteDesk<'_, R, H
     {
         match line {
             ConsoleLine::Stop => self.is_stopping = true,
-            ConsoleLine::Unknown => self.tell_line(UNKNOWN_WORDS),
-            ConsoleLine::TooLong => self.tell_line(TOO_LONG_WORDS),
+            ConsoleLine::Unknown => self.report(UNKNOWN_WORDS),
+            ConsoleLine::TooLong => self.report(TOO_LONG_WORDS),
         }
     }
 

@@ -161,9 +161,11 @@ impl<R: Changes + Catalogued + Drop, H: Runtime + AllocGlobal> SiteDesk<'_, R, H
     }
 
     /// Writes the contacts to their file, and reports if that fails.
-    pub fn save_contacts(&self) {
+    pub fn save_contacts(&mut self)
+        ensures { R.seen self.new.site ≡ R.seen self.old.site }
+    {
         if !matches!(self.contacts.save(self.host), Ok(true)) {
-            self.tell_line("fault file: the list of sites that were met cannot be written\n");
+            self.report_fault("fault file: the list of sites that were met cannot be written");
         }
     }
 }

@@ -9,22 +9,25 @@ use crate::meetings::Meetings;
 use crate::reversals::Reversals;
 use crate::scopes::Scopes;
 use crate::suspension::Suspension;
-use crate::words::{fault, write_raised, write_text, write_truth};
+use crate::words::{fault, write_null, write_raised, write_text, write_truth};
 use std::alloc::{AllocError, Global};
 use std::net::SocketAddr;
 use std::rt::Runtime;
 use td_alarms::Alarms;
 use td_arrivals::{Arrivals, NoteError};
 use td_changes::Changes;
+use td_client_tokens::Rights;
 use td_contacts::Contacts;
 use td_http_api::{ApiCall, Desk, DeskAnswer, Revision, Selection, StatusCode, Writer};
 use td_io::Device;
 use td_journal_files::Notes;
 use td_listings::{ExportError, export};
+use td_log_lines::LogLines;
 use td_replica::Catalogued;
 use td_schema_answers::write_schema;
 use td_semantics::Meter;
 use td_site_messages::{BROKEN, LACKING, NO_MEMORY};
+use td_token_files::TokenFile;
 use td_trials::Trials;
 
 /// The peers that the program was started with.
@@ -46,6 +49,10 @@ pub struct DeskParts<'a, R: Drop, H> {
     pub alarms: Alarms,
     pub arrivals: Arrivals,
     pub contacts: Contacts,
+    /// The file of the tokens that clients show.
+    pub tokens: TokenFile,
+    /// The name of the site's journal.
+    pub journal: &'a str,
     /// Its journal lacks statements that it had once, so it issues none until it has met another site.
     pub is_lacking: bool,
     /// A number that the program chose at this start.
@@ -72,6 +79,11 @@ pub struct SiteDesk<'a, R: Drop, H> {
     pub(crate) contacts: Contacts,
     /// When the file of contacts was last written, in milliseconds since the event loop began; none if it was not.
     pub(crate) contacts_saved: Option<u64>,
+    pub(crate) tokens: TokenFile,
+    /// When the file of tokens is looked at again, in milliseconds since the event loop began.
+    pub(crate) tokens_due: u64,
+    pub(crate) journal: &'a str,
+    pub(crate) lines: LogLines,
     pub(crate) console: PartialLine,
     /// Its journal lacks statements that it had once, so it issues none until it has met another site.
     pub(crate) is_lacking: bool,
@@ -79,6 +91,8 @@ pub struct SiteDesk<'a, R: Drop, H> {
     pub(crate) suspension: Option<Suspension>,
     pub(crate) is_stopping: bool,
     pub(crate) now: u64,
+    /// How many clients are connected.
+    pub(crate) clients: usize,
     pub(crate) start: u64,
     /// How often anything changed that is shown, but for the statements.
     pub(crate) marks: u64,
@@ -90,6 +104,20 @@ fn members(status: Result<StatusCode, AllocError>) -> Result<DeskAnswer, AllocEr
         Ok(status) => Ok(DeskAnswer::Members(status)),
         Err(error) => Err(error),
     }
+}
+
+// Appends who asks: the name of the token, null if it has none, and its rights.
+fn tell_client(
+    name: Option<&str>,
+    rights: Rights,
+    out: &mut Writer,
+) -> Result<StatusCode, AllocError> {
+    match name {
+        Some(name) => write_text(out, "name", name)?,
+        None => write_null(out, "name")?,
+    }
+    write_text(out, "rights", rights.name())?;
+    Ok(StatusCode::OK)
 }
 
 impl<'a, R: Changes + Catalogued + Drop, H: Runtime + AllocGlobal> SiteDesk<'a, R, H> {
@@ -108,6 +136,8 @@ impl<'a, R: Changes + Catalogued + Drop, H: Runtime + AllocGlobal> SiteDesk<'a, 
             alarms,
             mut arrivals,
             contacts,
+            tokens,
+            journal,
             is_lacking,
             start,
             mark,
@@ -132,12 +162,17 @@ impl<'a, R: Changes + Catalogued + Drop, H: Runtime + AllocGlobal> SiteDesk<'a, 
             arrivals,
             contacts,
             contacts_saved: None,
+            tokens,
+            tokens_due: 0,
+            journal,
+            lines: LogLines::new(alloc),
             console: PartialLine::new(),
             is_lacking,
             mark,
             suspension: None,
             is_stopping: false,
             now: 0,
+            clients: 0,
             start,
             marks: 0,
         })
@@ -165,11 +200,12 @@ impl<'a, R: Changes + Catalogued + Drop, H: Runtime + AllocGlobal> SiteDesk<'a, 
         self.is_stopping
     }
 
-    /// Takes note of the time, in milliseconds since the event loop began.
-    pub(crate) fn pass_time(&mut self, now: u64)
+    /// Takes note of the time, in milliseconds since the event loop began, and of how many clients are connected.
+    pub(crate) fn pass_time(&mut self, now: u64, clients: usize)
         ensures { R.seen self.new.site ≡ R.seen self.old.site }
     {
         self.now = now;
+        self.clients = clients;
     }
 
     /// Notes that something changed that is shown.
@@ -186,26 +222,15 @@ impl<'a, R: Changes + Catalogued + Drop, H: Runtime + AllocGlobal> SiteDesk<'a, 
         let Ok(held) = self.site.held() else {
             return;
         };
-        if let Err(error) = self.arrivals.note(self.host, held.entries()) {
-            self.report_unnoted(error);
-        }
-    }
-
-    // Reports why it is not kept when statements came.
-    fn report_unnoted(&self, error: NoteError) {
-        match error {
-            NoteError::OutOfMemory => {
-                self.tell_line("fault memory: when statements came is not kept\n")
+        match self.arrivals.note(self.host, held.entries()) {
+            Ok(()) => {}
+            Err(NoteError::OutOfMemory) => {
+                self.report_fault("fault memory: when statements came is not kept")
             }
-            NoteError::Unwritten => {
-                self.tell_line("fault file: when statements came cannot be written\n")
+            Err(NoteError::Unwritten) => {
+                self.report_fault("fault file: when statements came cannot be written")
             }
         }
-    }
-
-    // Tells whoever watches the program. Nothing depends on whether that is seen.
-    pub(crate) fn tell_line(&self, line: &str) {
-        let _ = print!(self.host; "{line}");
     }
 
     /// Lends what the answers about the site need; nothing in it changes the site.
@@ -365,6 +390,7 @@ impl<R: Changes + Catalogued + Trials + Drop, H: Runtime + AllocGlobal> Desk
     fn make(&mut self, call: &ApiCall<'_>, out: &mut Writer) -> Result<DeskAnswer, AllocError> {
         match call {
             ApiCall::Site => members(self.tell_site(out)),
+            ApiCall::Client { name, rights } => members(tell_client(*name, *rights, out)),
             ApiCall::Relvars { counts } => members(self.tell_relvars(*counts, out)),
             ApiCall::Table { relvar } => self.export_table(relvar, out),
             ApiCall::Refused => members(self.view().tell_refused(out)),
@@ -373,15 +399,18 @@ impl<R: Changes + Catalogued + Trials + Drop, H: Runtime + AllocGlobal> Desk
             ApiCall::Script => members(self.tell_script(out)),
             ApiCall::Schema => members(self.tell_schema(out)),
             ApiCall::Digest => members(self.view().tell_digest(out)),
+            ApiCall::Metrics => self.tell_metrics(),
             ApiCall::Query {
                 text,
                 at,
                 selection,
             } => members(self.query(*text, *at, selection, out)),
-            ApiCall::Statement { text, key } => match self.answer_statement(*text, *key, out) {
-                Ok(status) => Ok(DeskAnswer::Members(status)),
-                Err(error) => Err(error),
-            },
+            ApiCall::Statement { text, key, author } => {
+                match self.answer_statement(*text, *key, *author, out) {
+                    Ok(status) => Ok(DeskAnswer::Members(status)),
+                    Err(error) => Err(error),
+                }
+            }
             ApiCall::Trial { text } => members(self.answer_trial(text, out)),
             ApiCall::Acknowledge { stamp } => members(self.acknowledge_stamp(stamp, out)),
             ApiCall::AcknowledgeAlarms { site } => members(self.acknowledge_alarms(*site, out)),

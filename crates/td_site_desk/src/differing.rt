@@ -30,7 +30,7 @@ impl<R: Changes + Catalogued + Drop, H: Runtime + AllocGlobal> SiteDesk<'_, R, H
     fn alarm_line(&self, count: usize, address: IpAddr) -> Result<String, AllocError> {
         let mut line = String::new(self.alloc);
         push_count(&mut line, count, "new alarm")?;
-        writeln!(
+        write!(
             &mut line,
             ": statements differ here and at {address}; GET /api/site has of which sites"
         )?;
@@ -38,17 +38,21 @@ impl<R: Changes + Catalogued + Drop, H: Runtime + AllocGlobal> SiteDesk<'_, R, H
     }
 
     // Reports alarms that are new, and keeps them.
-    fn keep_alarms(&self, count: usize, address: IpAddr) {
+    fn keep_alarms(&mut self, count: usize, address: IpAddr)
+        ensures { R.seen self.new.site ≡ R.seen self.old.site }
+    {
         if let Ok(line) = self.alarm_line(count, address) {
-            self.tell_line(line.as_str());
+            self.report(line.as_str());
         }
         self.save_alarms();
     }
 
     // Writes the list of alarms to its file, and reports if that fails.
-    fn save_alarms(&self) {
+    fn save_alarms(&mut self)
+        ensures { R.seen self.new.site ≡ R.seen self.old.site }
+    {
         if !matches!(self.alarms.save(self.host), Ok(true)) {
-            self.tell_line("fault file: the list of alarms cannot be written\n");
+            self.report_fault("fault file: the list of alarms cannot be written");
         }
     }
 
@@ -62,7 +66,7 @@ impl<R: Changes + Catalogued + Drop, H: Runtime + AllocGlobal> SiteDesk<'_, R, H
                 self.keep_alarms(count, address);
                 self.mark_change();
             }
-            Err(_) => self.tell_line("fault memory: an alarm is not kept\n"),
+            Err(_) => self.report_fault("fault memory: an alarm is not kept"),
         }
     }
 

@@ -59,9 +59,11 @@ fn step_after(received: Result<Received, MeetingError>) -> StepResult
 
 impl<R: Changes + Catalogued + Drop, H: Runtime + AllocGlobal> SiteDesk<'_, R, H> {
     /// Writes the list of reversed statements to its file, and tells whoever watches if that fails.
-    pub(crate) fn save_reversals(&self) {
+    pub(crate) fn save_reversals(&mut self)
+        ensures { R.seen self.new.site ≡ R.seen self.old.site }
+    {
         if !matches!(self.reversals.save(self.host), Ok(true)) {
-            self.tell_line("fault file: the list of reversed statements cannot be written\n");
+            self.report_fault("fault file: the list of reversed statements cannot be written");
         }
     }
 }
@@ -301,9 +303,9 @@ impl<R: Changes + Catalogued + Digested + Drop, H: Runtime + AllocGlobal> SiteDe
         ensures { R.seen self.new.site ≡ R.seen self.old.site }
     {
         let outcome = match self.meetings.end(report, self.now) {
-            Ok((outcome, line)) => {
-                self.tell_line(line.as_str());
-                outcome
+            Ok(ended) => {
+                self.report_line(ended.kind, ended.peer.as_str(), ended.line.as_str());
+                ended.outcome
             }
             Err(_) => MeetingOutcome::Failed,
         };
@@ -327,7 +329,11 @@ impl<R: Changes + Catalogued + Digested + Drop, H: Runtime + AllocGlobal> SiteDe
             PeerRefusal::Address => "its address is not allowed",
             PeerRefusal::Crowded => "as many meetings are under way as can be",
         };
-        let _ = println!(self.host; "no meeting from {peer}: {why}");
+        let peer = peer.ip();
+        match format!(in self.alloc; "no meeting from {peer}: {why}") {
+            Ok(line) => self.report_fault(line.as_str()),
+            Err(_) => self.report_fault(why),
+        }
     }
 
     /// The peer that a client asked to have called, which is given once; none if nobody asked since.

@@ -1,12 +1,12 @@
 //! Which statements of the log a client asks for.
 
-use crate::authors::author_of;
 use crate::values::cell_text;
 use caseless::default_case_fold_str;
 use json::{Scratch, Value as Json};
 use std::alloc::{AllocError, Global};
 use td_relations::Delta;
 use td_stamps::{Entry, Stamp};
+use td_statement_keys::author_of;
 use td_values::{Name, Tuple};
 
 /// Which statements are listed: those that fit each member.

@@ -2,7 +2,6 @@
 
 ghost use Rattle.std.specs.Prelude.{◌≤◌};
 
-use crate::authors::author_of;
 use crate::changes::write_changes;
 use crate::digests::write_digests;
 use crate::reversals::Reversals;
@@ -21,6 +20,7 @@ use td_replica::{AskError, Catalogued, PastError, TellError};
 use td_semantics::{Answer, Meter, Outcome};
 use td_site_messages::{BROKEN, SiteFault, raise_meaning};
 use td_stamps::{Entry, Held, Stamp};
+use td_statement_keys::{author_of, is_signed};
 use td_values::{Name, Value};
 
 /// A site, with what the answers about it need.
@@ -76,14 +76,6 @@ fn write_vector(alloc: Global, held: &Held, out: &mut Writer) -> Result<(), Allo
 fn write_site(alloc: Global, site: u16, number: u32, out: &mut Writer) -> Result<(), AllocError> {
     let name = format!(in alloc; "{site}")?;
     write_count(out, name.as_str(), u64::from(number))
-}
-
-// Appends the author of a statement as the member `author`, null if its text names none.
-fn write_author(out: &mut Writer, text: &str) -> Result<(), AllocError> {
-    match author_of(text) {
-        Some(author) => write_text(out, "author", author),
-        None => write_null(out, "author"),
-    }
 }
 
 // Whether a relvar is virtual or base.
@@ -207,6 +199,18 @@ impl<R: Changes + Catalogued> SiteView<'_, R> {
         }
     }
 
+    // Appends the author of a statement, null if its text names none, and whether this site issued it for a token of
+    // that name.
+    fn write_author(&self, entry: &Entry, out: &mut Writer) -> Result<(), AllocError> {
+        let text = entry.text.as_str();
+        match author_of(text) {
+            Some(author) => write_text(out, "author", author)?,
+            None => write_null(out, "author")?,
+        }
+        let is_own = entry.site == self.site.site();
+        write_truth(out, "confirmed", is_own && is_signed(text.as_bytes()))
+    }
+
     // Appends when a statement came here, null where that is not known.
     fn write_came(&self, stamp: &Stamp, out: &mut Writer) -> Result<(), AllocError> {
         match self.arrivals.came(stamp) {
@@ -225,7 +229,7 @@ impl<R: Changes + Catalogued> SiteView<'_, R> {
         let stamp = entry.stamp();
         write_stamp(self.alloc, out, &stamp)?;
         write_count(out, "number", u64::from(entry.seq))?;
-        write_author(out, entry.text.as_str())?;
+        self.write_author(entry, out)?;
         self.write_came(&stamp, out)?;
         self.tell_outcome(&stamp, outcome, out)?;
         write_text(out, "text", entry.text.as_str())

@@ -20,7 +20,6 @@
 #![tactic(auto)]
 
 mod attention;
-mod authors;
 mod changes;
 mod console;
 mod contacts;
@@ -31,8 +30,10 @@ mod exchange;
 mod filters;
 mod inquiries;
 pub mod laws;
+mod lines;
 mod log;
 mod meetings;
+mod metrics;
 mod received;
 mod reversals;
 mod running;
@@ -41,6 +42,7 @@ mod server;
 mod statements;
 mod steps;
 mod suspension;
+mod tokens;
 mod trials;
 mod values;
 mod words;

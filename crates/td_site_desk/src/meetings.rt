@@ -1,11 +1,13 @@
 //! What came of meetings.
 
+use crate::lines::LineKind;
 use crate::words::{write_count, write_text, write_truth};
 use std::alloc::{AllocError, Global};
 use std::collections::VecDeque;
 use std::net::SocketAddr;
 use td_event_loop::{Loss, MOST_MEETINGS, MeetingOutcome, MeetingReport, MeetingSide};
 use td_http_api::Writer;
+use td_site_messages::push_met;
 
 /// How many meetings that ended are kept.
 const MOST_TOLD: usize = 32;
@@ -59,6 +61,14 @@ pub(crate) struct Meetings {
     alloc: Global,
     notes: Vec<Option<Note>>,
     ended: VecDeque<Meeting>,
+    pub(crate) counts: MeetingCounts,
+}
+
+/// How many meetings ended since the program began, and how many of them failed.
+#[derive(Clone, Copy)]
+pub(crate) struct MeetingCounts {
+    pub(crate) ended: u64,
+    pub(crate) failed: u64,
 }
 
 // What is said of a meeting that was lost, or of which no step left a note.
@@ -72,14 +82,58 @@ fn loss_words(loss: Option<Loss>) -> &'static str {
     }
 }
 
-// The line about a meeting that came to this.
-fn line_of(alloc: Global, report: &MeetingReport, words: &str) -> Result<String, AllocError> {
+/// A meeting that ended: what it came to, and the line about it.
+#[derive(Drop)]
+pub(crate) struct EndedMeeting {
+    pub(crate) outcome: MeetingOutcome,
+    pub(crate) kind: LineKind,
+    /// Whom it was with, and who called.
+    pub(crate) peer: String,
+    pub(crate) line: String,
+}
+
+// Whom a meeting was with, and who called. A peer that calls does so from another port each time, which is left out.
+fn peer_words(alloc: Global, report: &MeetingReport) -> Result<String, AllocError> {
     let peer = report.peer;
-    let way = match report.side {
-        MeetingSide::First => "to",
-        MeetingSide::Second => "from",
-    };
-    format!(in alloc; "meeting {way} {peer}: {words}\n")
+    match report.side {
+        MeetingSide::First => format!(in alloc; "to {peer}"),
+        MeetingSide::Second => {
+            let peer = peer.ip();
+            format!(in alloc; "from {peer}")
+        }
+    }
+}
+
+// What the line about a meeting is about that came to this.
+fn kind_of(alloc: Global, note: &Note) -> Result<LineKind, AllocError> {
+    if note.outcome == MeetingOutcome::Failed {
+        return Ok(LineKind::Fault);
+    }
+    let mut nothing = String::new(alloc);
+    push_met(&mut nothing, 0)?;
+    let is_quiet = note.words.as_str() == nothing.as_str();
+    Ok(if is_quiet {
+        LineKind::Quiet
+    } else {
+        LineKind::News
+    })
+}
+
+// The meeting that came to this, with its line.
+fn ended_of(
+    alloc: Global,
+    report: &MeetingReport,
+    note: &Note,
+) -> Result<EndedMeeting, AllocError> {
+    let peer = peer_words(alloc, report)?;
+    let line = format!(in alloc; "meeting {}: {}", peer.as_str(), note.words.as_str())?;
+    let kind = kind_of(alloc, note)?;
+    Ok(EndedMeeting {
+        outcome: note.outcome,
+        kind,
+        peer,
+        line,
+    })
 }
 
 impl Meetings {
@@ -92,6 +146,10 @@ impl Meetings {
             alloc,
             notes,
             ended: VecDeque::new(alloc),
+            counts: MeetingCounts {
+                ended: 0,
+                failed: 0,
+            },
         })
     }
 
@@ -154,17 +212,25 @@ impl Meetings {
         }
     }
 
+    // Counts a meeting that came to this.
+    fn count(&mut self, outcome: MeetingOutcome) {
+        self.counts.ended = self.counts.ended.saturating_add(1);
+        if outcome == MeetingOutcome::Failed {
+            self.counts.failed = self.counts.failed.saturating_add(1);
+        }
+    }
+
     /// Ends a meeting; returns what it came to, with a line for whoever watches.
     pub(crate) fn end(
         &mut self,
         report: &MeetingReport,
         now: u64,
-    ) -> Result<(MeetingOutcome, String), AllocError> {
+    ) -> Result<EndedMeeting, AllocError> {
         let note = self.note_of(report)?;
-        let outcome = note.outcome;
-        let line = line_of(self.alloc, report, note.words.as_str())?;
+        self.count(note.outcome);
+        let ended = ended_of(self.alloc, report, &note)?;
         match self.keep(report, note, now) {
-            Ok(()) => Ok((outcome, line)),
+            Ok(()) => Ok(ended),
             Err(error) => Err(error),
         }
     }

@@ -282,14 +282,14 @@ impl<R: Changes + Catalogued + Drop, H: Runtime + AllocGlobal> SiteDesk<'_, R, H
         }
         self.note_arrivals();
         let Ok(more) = self.add_marks(changes) else {
-            self.tell_line(
-                "fault memory: whether statements of this site came to something else is not known\n",
+            self.report_fault(
+                "fault memory: whether statements of this site came to something else is not known",
             );
             return;
         };
         if more > 0 {
-            self.tell_line(
-                "statements that were done here are refused now, or change something else: GET /api/attention\n",
+            self.report(
+                "statements that were done here are refused now, or change something else: GET /api/attention",
             );
             self.save_reversals();
         }

@@ -1,8 +1,7 @@
 //! A run of the event loop over a site.
 
-ghost use Rattle.std.specs.Prelude.{◌≡◌};
 ghost use Rattle.td_event_loop.specs.Chains.{Chain};
-ghost use Rattle.td_site_desk.specs.Runs.{SiteStep};
+ghost use Rattle.td_site_desk.specs.Runs.{GuardedStep};
 
 use crate::server::SiteServer;
 use std::io;
@@ -22,9 +21,8 @@ pub fn serve<
     H: Runtime + AllocGlobal,
     N: Net + Clock + RandomSource,
 >(event_loop: &mut EventLoop, net: &N, server: &mut SiteServer<'_, R, H>) -> io::Result<()>
-    ensures guard { server.new.api.guard ≡ server.old.api.guard }
-    ensures steps { Chain (SiteStep server.old.api.guard) (R.seen server.old.api.desk.site)
-        (R.seen server.new.api.desk.site) }
+    ensures { Chain GuardedStep (server.old.api.guard, R.seen server.old.api.desk.site)
+        (server.new.api.guard, R.seen server.new.api.desk.site) }
 {
     event_loop.run(net, server)
 }

@@ -69,8 +69,8 @@ impl<R: Changes + Catalogued + Trials + Drop, H: Runtime + AllocGlobal> Service
 
 impl<R: Changes + Catalogued + Trials + Digested + Drop, H: Runtime + AllocGlobal> Meets
     for SiteServer<'_, R, H> {
-    // The guard is the same after each call.
-    ghost keeps = { λ old new. (new.api.guard ≡ old.api.guard)
+    // The guard is the same after each call, but for its tokens, which may have been read again.
+    ghost keeps = { λ old new. (new.api.guard.hosts ≡ old.api.guard.hosts)
         × (R.seen new.api.desk.site ≡ R.seen old.api.desk.site) };
 
     ghost settles = { λ old reply step new. (new.api.guard ≡ old.api.guard)
@@ -146,8 +146,11 @@ impl<R: Changes + Catalogued + Trials + Digested + Drop, H: Runtime + AllocGloba
         self.api.desk.is_leaving()
     }
 
-    fn pass_time(&mut self, now: u64) {
-        self.api.desk.pass_time(now)
+    fn pass_time(&mut self, now: u64, clients: usize) {
+        self.api.desk.pass_time(now, clients);
+        if let Some(tokens) = self.api.desk.reread_tokens() {
+            self.api.set_tokens(tokens);
+        }
     }
 
     fn read_console(&mut self) -> bool {

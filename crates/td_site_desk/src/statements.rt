@@ -3,7 +3,9 @@
 ghost use Rattle.std.specs.Prelude.{◌≡◌, ◌⊎◌, ◌≤◌, IfOk, Some, option_copied, option_map, string_bytes};
 ghost use Rattle.std.specs.Result.{result_ok};
 ghost use Rattle.td_site_desk.specs.ForProofs.{IsToldBy};
-ghost use Rattle.td_site_desk.specs.Sites.{AnswersStatement, AnswersUnlessFailing, IsIssued, IsStatusBy, failing_of, known_entry};
+ghost use Rattle.td_site_desk.specs.Sites.{AnswersStatement, AnswersUnlessFailing, AnswersUnsigned, IsIssued, IsStatusBy, failing_of, known_entry};
+ghost use Rattle.td_statement_keys.specs.Authors as authors;
+ghost use Rattle.td_statement_keys.specs.Authors.{signed_text};
 ghost use Rattle.td_statement_keys.specs.Keys.{entry_with, issued_text};
 
 use crate::desk::SiteDesk;
@@ -21,7 +23,7 @@ use td_replica::{Catalogued, IssueError, Issued, MOST_BYTES, TellError};
 use td_semantics::Outcome;
 use td_site_messages::{BROKEN, LACKING, SiteFault, failure_words};
 use td_stamps::{Entry, Stamp};
-use td_statement_keys::{COMMENT_BYTES, find_keyed, key_comment, keyed_text};
+use td_statement_keys::{find_keyed, is_signed, key_comment, keyed_text, name_comment};
 
 /// The most bytes of a key.
 const MOST_KEY_BYTES: usize = 128;
@@ -47,11 +49,12 @@ fn unwritten_words(alloc: Global, failure: Option<SyncFailure>) -> Result<String
     )
 }
 
-// What is said of a statement under a key that is too long.
-fn long_words(alloc: Global, text: &str) -> Result<String, AllocError> {
-    let (most, bytes) = (MOST_BYTES - COMMENT_BYTES, text.len());
+// What is said of a text that is too long to be issued with its comments, which is that text after them.
+fn long_words(alloc: Global, issued: &str, text: &str) -> Result<String, AllocError> {
+    let bytes = text.len();
+    let most = MOST_BYTES.saturating_sub(issued.len().saturating_sub(bytes));
     format!(in alloc;
-        "syntax: a statement with a key has at most {most} bytes, and this one has {bytes}"
+        "syntax: a statement with a key or by a named token has at most {most} bytes, and this one has {bytes}"
     )
 }
 
@@ -121,7 +124,7 @@ impl<R: Changes + Catalogued + Drop, H: Runtime + AllocGlobal> SiteDesk<'_, R, H
         fault_words(self.alloc, self.site.catalogue(), self.notes, issue)
     }
 
-    /// Answers why a statement is not issued, and tells whoever watches too if the journal was not written.
+    /// Answers why a statement is not issued.
     pub(crate) fn tell_not_issued(
         &self,
         text: &str,
@@ -131,10 +134,25 @@ impl<R: Changes + Catalogued + Drop, H: Runtime + AllocGlobal> SiteDesk<'_, R, H
         ensures { IfOk result (λ status. 400 ≤ status) }
     {
         let words = self.unissued_words(text, error)?;
-        if error == IssueError::JournalWrite {
-            let _ = println!(self.host; "fault {words}");
-        }
         fault(out, status_of(error), words.as_str())
+    }
+
+    // Answers why a statement is not issued, and prints that too if the journal was not written.
+    fn tell_failed(
+        &mut self,
+        text: &str,
+        error: IssueError,
+        out: &mut Writer,
+    ) -> Result<StatusCode, AllocError>
+        ensures kept { R.seen self.new.site ≡ R.seen self.old.site }
+        ensures status { IfOk result (λ status. 400 ≤ status) }
+    {
+        if error == IssueError::JournalWrite {
+            let words = unwritten_words(self.alloc, self.notes.failure())?;
+            let line = format!(in self.alloc; "fault {}", words.as_str())?;
+            self.report_fault(line.as_str());
+        }
+        self.tell_not_issued(text, error, out)
     }
 
     // Issues a text, and answers what became of it. Faults show the client's own text, which has no comment of a key.
@@ -149,7 +167,7 @@ impl<R: Changes + Catalogued + Drop, H: Runtime + AllocGlobal> SiteDesk<'_, R, H
     {
         match self.site.issue(self.alloc, issued, &mut self.meter) {
             Ok(issued) => self.tell_issued(&issued, out),
-            Err(error) => self.tell_not_issued(text, error, out),
+            Err(error) => self.tell_failed(text, error, out),
         }
     }
 
@@ -211,25 +229,39 @@ impl<R: Changes + Catalogued + Drop, H: Runtime + AllocGlobal> SiteDesk<'_, R, H
         }
     }
 
-    // Issues a statement under a key, or answers what became of the one that was issued under it.
+    // Answers that a statement is too long with its comments.
+    fn tell_long(
+        &self,
+        issued: &str,
+        text: &str,
+        out: &mut Writer,
+    ) -> Result<StatusCode, AllocError>
+        ensures { IfOk result (λ status. 400 ≤ status) }
+    {
+        let words = long_words(self.alloc, issued, text)?;
+        fault(out, StatusCode::UNPROCESSABLE_ENTITY, words.as_str())
+    }
+
+    // Issues a text under a key, or answers what became of the one that was issued under it. A client sent the last
+    // part of it.
     fn issue_under(
         &mut self,
         key: &str,
+        signed: &str,
         text: &str,
         out: &mut Writer,
     ) -> Result<StatusCode, AllocError>
         ensures { AnswersStatement (known_entry (R.seen self.old.site) (Some key.now))
-            (R.seen self.old.site) (issued_text (Some key.now) text.now) (result_ok result)
+            (R.seen self.old.site) (issued_text (Some key.now) signed.now) (result_ok result)
             (R.seen self.new.site) }
     {
         if key.len() > MOST_KEY_BYTES {
             return fault(out, StatusCode::BAD_REQUEST, "a key has at most 128 bytes");
         }
         let comment = key_comment(self.alloc, key)?;
-        let issued = keyed_text(self.alloc, comment.as_str(), text)?;
+        let issued = keyed_text(self.alloc, comment.as_str(), signed)?;
         if issued.len() > MOST_BYTES {
-            let words = long_words(self.alloc, text)?;
-            return fault(out, StatusCode::UNPROCESSABLE_ENTITY, words.as_str());
+            return self.tell_long(issued.as_str(), text, out);
         }
         match self.tell_seen(comment.as_str(), issued.as_str(), out)? {
             Some(status) => Ok(status),
@@ -237,37 +269,85 @@ impl<R: Changes + Catalogued + Drop, H: Runtime + AllocGlobal> SiteDesk<'_, R, H
         }
     }
 
-    // Issues a statement, or answers what became of the one that was issued under its key, or why it is not issued.
+    // Issues a text, or answers what became of the one that was issued under its key, or why it is not issued. A client
+    // sent the last part of it.
     fn issue_once(
         &mut self,
+        signed: &str,
         text: &str,
         key: Option<&str>,
         out: &mut Writer,
     ) -> Result<StatusCode, AllocError>
         ensures { AnswersStatement (known_entry (R.seen self.old.site) (option_copied key.entry))
-            (R.seen self.old.site) (issued_text (option_copied key.entry) text.now)
+            (R.seen self.old.site) (issued_text (option_copied key.entry) signed.now)
             (result_ok result) (R.seen self.new.site) }
     {
         match key {
-            None => self.issue_new(text, text, out),
-            Some(key) => self.issue_under(key, text, out),
+            None => self.issue_new(signed, text, out),
+            Some(key) => self.issue_under(key, signed, text, out),
         }
     }
 
-    /// Answers a statement: where the site takes none, by the reason of that.
+    // Issues a statement by a token with this name, if it has one, as `issue_once` does.
+    fn issue_signed(
+        &mut self,
+        text: &str,
+        key: Option<&str>,
+        author: Option<&str>,
+        out: &mut Writer,
+    ) -> Result<StatusCode, AllocError>
+        ensures { AnswersStatement (known_entry (R.seen self.old.site) (option_copied key.entry))
+            (R.seen self.old.site)
+            (issued_text (option_copied key.entry) (signed_text (option_copied author.entry) text.now))
+            (result_ok result) (R.seen self.new.site) }
+    {
+        let Some(author) = author else {
+            return self.issue_once(text, text, key, out);
+        };
+        let comment = name_comment(self.alloc, author)?;
+        let signed = keyed_text(self.alloc, comment.as_str(), text)?;
+        if signed.len() > MOST_BYTES {
+            return self.tell_long(signed.as_str(), text, out);
+        }
+        self.issue_once(signed.as_str(), text, key, out)
+    }
+
+    // Issues a statement that has no comment of a name, or answers why not.
+    fn issue_unsigned(
+        &mut self,
+        text: &str,
+        key: Option<&str>,
+        author: Option<&str>,
+        out: &mut Writer,
+    ) -> Result<StatusCode, AllocError>
+        ensures { AnswersUnsigned (authors.is_signed text.now) (option_copied key.entry)
+            (option_copied author.entry) (R.seen self.old.site) text.now (result_ok result)
+            (R.seen self.new.site) }
+    {
+        if is_signed(text.as_bytes()) {
+            let words =
+                "a statement that is sent begins with no /* by: the name is that of the token";
+            return fault(out, StatusCode::UNPROCESSABLE_ENTITY, words);
+        }
+        self.issue_signed(text, key, author, out)
+    }
+
+    /// Answers a statement of a token with this name, if it has one: where the site takes none, by the reason of that.
     pub(crate) fn answer_statement(
         &mut self,
         text: &str,
         key: Option<&str>,
+        author: Option<&str>,
         out: &mut Writer,
     ) -> Result<StatusCode, AllocError>
         ensures { AnswersUnlessFailing (failing_of (option_map (λ it. string_bytes it.why) self.old.suspension)
             (R.seen self.old.site).live self.old.is_lacking) (option_copied key.entry)
-            (R.seen self.old.site) text.now (result_ok result) (R.seen self.new.site) }
+            (option_copied author.entry) (R.seen self.old.site) text.now (result_ok result)
+            (R.seen self.new.site) }
     {
         match self.failing_words() {
             Some(why) => fault(out, StatusCode::SERVICE_UNAVAILABLE, why),
-            None => self.issue_once(text, key, out),
+            None => self.issue_unsigned(text, key, author, out),
         }
     }
 

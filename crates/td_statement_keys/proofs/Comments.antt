@@ -11,7 +11,7 @@ use Rattle.sha2.specs.Sha256.{sha256}
 use Rattle.sha2.proofs.Facts256.{length-sha256}
 use Rattle.td_statement_keys.specs.Keys.{has_prefix, is_digit, is_keyed_text, key_comment, key_digits}
 
-length-key_digits : (key : List ℕ) → length (key_digits key) ≡ 16
+pub length-key_digits : (key : List ℕ) → length (key_digits key) ≡ 16
 length-key_digits key =
     let all = length-sha256 key in
     let first : length (take 8 (sha256 key)) ≡ 8 = omega (arith, length-take 8 (sha256 key), all) in

@@ -1,7 +1,8 @@
 -- What holds over all statements that are issued under keys.
-use Rattle.std.specs.Prelude.{◌≡◌, ◌⊎◌, ◌≤◌, ℕ, true, List, [], ◌∷◌, ◌++◌, length, filter, Contains, Some, None}
+use Rattle.std.specs.Prelude.{◌≡◌, ◌⊎◌, ◌≤◌, ℕ, true, false, List, [], ◌∷◌, ◌++◌, length, filter, Contains, Option, Some, None}
 use Rattle.td_stamps.specs.declared.entry.Entry.{Entry}
-use Rattle.td_statement_keys.specs.Keys.{has_prefix, is_own_keyed, issued_text, key_comment, keyed_entry, last_keyed}
+use Rattle.td_statement_keys.specs.Authors.{IsSignedBy, is_signed, signed_text}
+use Rattle.td_statement_keys.specs.Keys.{has_prefix, is_keyed_text, is_own_keyed, issued_text, key_comment, keyed_entry, last_keyed}
 
 -- a statement is issued under a key by which none is found
 pub record IssuesUnder (site : ℕ) (key text : List ℕ) (old new : List Entry) : Type 0 where
@@ -49,3 +50,16 @@ abbrev pub FoundAreHeld : Type 0
 FoundAreHeld =
     (site : ℕ) (key : List ℕ) (es : List Entry) (e : Entry) → keyed_entry site key es ≡ Some e
     → Contains es e × (e.site ≡ site) × (has_prefix (key_comment key) e.text ≡ true)
+
+-- Where what a client sends has no comment of a name, what is issued has that of the client's token, with a key or not.
+abbrev pub NamesAreKept : Type 0
+NamesAreKept =
+    (key name : Option (List ℕ)) (text : List ℕ) → is_signed text ≡ false → IsSignedBy name (issued_text key (signed_text name text))
+
+-- a text that is issued under a key begins with the comment of one
+abbrev pub KeysAreKept : Type 0
+KeysAreKept = (key text : List ℕ) → is_keyed_text (issued_text (Some key) text) ≡ true
+
+-- the comment of a name is not that of a key
+abbrev pub NamesAreNoKeys : Type 0
+NamesAreNoKeys = (name text : List ℕ) → is_keyed_text (signed_text (Some name) text) ≡ false

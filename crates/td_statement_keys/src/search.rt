@@ -11,8 +11,8 @@ use td_stamps::Entry;
 /// How many statements with a key are searched for one.
 const MOST_KEYED: usize = 1_000;
 
-// Whether a text begins with some bytes.
-fn has_prefix(prefix: &[u8], text: &[u8]) -> bool
+/// Whether a text begins with some bytes.
+pub(crate) fn has_prefix(prefix: &[u8], text: &[u8]) -> bool
     ensures { result ≡ keys.has_prefix prefix.now text.now }
 {
     text.starts_with(prefix)

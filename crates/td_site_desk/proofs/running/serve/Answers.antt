@@ -3,5 +3,4 @@ use Rattle.td_site_desk.proofs.running.serve.Goals as goal
 
 pub returns : goal.returns
 returns g c =
-    let run = site_run (λ desk. g.R.Replica.seen desk.site) _ _ (λ s. s.api.guard) (λ s. s.api.desk) _ _ c.run.ensures in
-    record { guard = run.0; steps = run.1 }
+    site_run (λ desk. g.R.Replica.seen desk.site) _ _ (λ s. s.api.guard) (λ s. s.api.desk) _ _ c.run.ensures
