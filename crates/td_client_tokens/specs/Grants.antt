@@ -4,7 +4,7 @@ use Rattle.std.specs.Str.{bytes_eq}
 use Rattle.td_client_tokens.specs.declared.rights.Rights.{Rights}
 use Rattle.td_client_tokens.specs.declared.rights.Rights.TheVariants.{Read, Write, All}
 
--- rights of a higher rights_rank include those of a lower one
+-- rights of a higher rank include those of a lower one
 abbrev pub rights_rank : Rights → ℕ
 rights_rank Read = 0
 rights_rank Write = 1

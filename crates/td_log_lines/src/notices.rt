@@ -8,7 +8,7 @@ use std::alloc::{AllocError, Global};
 use std::fmt::Write;
 use std::marker::Model;
 
-/// The most texts that are held back at a time. When there are so many, another one is printed each time.
+/// The most texts that are held back at a time. Beside 64 of them, another one is printed each time that it comes.
 const MOST_NOTICES: usize = 64;
 
 /// For how many seconds a text that was printed is held back.

@@ -28,7 +28,7 @@ fn text_of(alloc: Global, at: DateTime) -> Result<String, AllocError>
     format!(in alloc; "{year:04}-{month:02}-{day:02}T{hour:02}:{minute:02}:{second:02}Z")
 }
 
-/// The time that is so many seconds after the beginning of 1970, in UTC, as RFC 3339 writes it: `2026-12-01T14:04:53Z`.
+/// The time of a second since the beginning of 1970, in UTC, as RFC 3339 writes it: `2026-12-01T14:04:53Z`.
 pub fn time_text(alloc: Global, seconds: u64) -> Result<String, AllocError>
     ensures { IfOk result (λ text. IsTimeText (min seconds 253_402_300_799) (string_bytes text)) }
 {

@@ -15,7 +15,7 @@ pub(crate) const TOKEN: &str = "token";
 const AFTER_HELP: &str = "\
 NAME is for whom the token is: 1 to 32 letters of a to z, digits, blanks, . and -.
 RIGHTS is read, write, which includes read, or all, which includes both. The address
-of the page is printed with the token behind #; whoever opens it shows the token.
+of the page is printed with the token after #; whoever opens it shows the token.
 
 To withdraw a token take its line out of FILE: a server that runs sees that by itself.";
 

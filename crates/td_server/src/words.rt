@@ -13,7 +13,7 @@ use td_site_opening::{
 
 const AFTER_HELP: &str = "\
 SCRIPT has the definitions. The program prints the address of its page with a token
-behind #, and a line for each meeting and fault. POST /api/stop ends it, and with
+after #, and a line for each meeting and fault. POST /api/stop ends it, and with
 --console a line stop on standard input.
 
 td_server token NAME RIGHTS --token-file FILE adds a token for a person or a program;

@@ -132,8 +132,8 @@ impl TokenFile {
     }
 
     /// Looks at the file again: its tokens if it has changed since the last look, and none if it has not. A file that
-    /// is wrong, gone, or open to others is an error once, and then none until it changes again. After want of memory
-    /// the next look tries again.
+    /// is wrong, gone, or open to others is an error once, and then none until it changes again. If memory runs
+    /// out, the next look tries again.
     pub fn reread<H: Files + AllocGlobal>(
         &mut self,
         alloc: Global,
